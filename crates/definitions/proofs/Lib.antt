@@ -1,0 +1,4 @@
+pub mod Comparing
+pub mod Memory
+pub mod Fitting
+pub mod Marked

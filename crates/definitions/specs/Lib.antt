@@ -1,0 +1,14 @@
+pub mod Tree
+pub mod Same
+pub mod Statement
+pub mod Sheet
+pub mod Eliminate
+pub mod Trim
+pub mod Operations
+pub mod Emit
+pub mod Answer
+pub mod Text
+pub mod Meaning
+pub mod Run
+pub mod Demand
+pub mod Marked

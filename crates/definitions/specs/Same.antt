@@ -1,0 +1,56 @@
+-- Same trees: document 01, 'node.rs', 'Same tree'.
+use Prim.Native.Nat.{ℕ}
+use mathlib.Core.Bool.{Bool, true, false, _&&_, _||_}
+use mathlib.Core.List.{List, [], _∷_}
+use lib.Dec.{eqb}
+use Rattle.symbol.specs.Place.{samePlace}
+use Rattle.operation.specs.Codes.{commutes}
+use Rattle.definitions.specs.Tree.{One, unary, function1, Two, binary, choice, function2, Tree, constant, variable, one, two}
+
+abbrev pub sameOne : One → One → Bool
+sameOne (unary c) (unary d) = eqb c d
+sameOne (unary c) (function1 g) = false
+sameOne (function1 f) (unary d) = false
+sameOne (function1 f) (function1 g) = eqb f g
+
+-- 'a choice's condition place counts'
+abbrev pub sameTwo : Two → Two → Bool
+sameTwo (binary c) (binary d) = eqb c d
+sameTwo (binary c) (choice q) = false
+sameTwo (binary c) (function2 g) = false
+sameTwo (choice p) (binary d) = false
+sameTwo (choice p) (choice q) = samePlace p q
+sameTwo (choice p) (function2 g) = false
+sameTwo (function2 f) (binary d) = false
+sameTwo (function2 f) (choice q) = false
+sameTwo (function2 f) (function2 g) = eqb f g
+
+-- may the sides be exchanged
+abbrev pub exchanges : Two → Bool
+exchanges (binary c) = commutes c
+exchanges (choice p) = false
+exchanges (function2 f) = false
+
+-- 'equal, allowing both sides of a commuting operation to be exchanged at any depth'
+unfoldable pub same : Tree → Tree → Bool
+same (constant i) (constant j) = eqb i j
+same (constant i) (variable q) = false
+same (constant i) (one o a) = false
+same (constant i) (two o l r) = false
+same (variable p) (constant j) = false
+same (variable p) (variable q) = samePlace p q
+same (variable p) (one o a) = false
+same (variable p) (two o l r) = false
+same (one o a) (constant j) = false
+same (one o a) (variable q) = false
+same (one o a) (one u b) = sameOne o u && same a b
+same (one o a) (two u l r) = false
+same (two o l r) (constant j) = false
+same (two o l r) (variable q) = false
+same (two o l r) (one u b) = false
+same (two o l r) (two u x y) = sameTwo o u && ((same l x && same r y) || (exchanges o && (same l y && same r x)))
+
+-- is there the same tree in the list
+unfoldable pub among : List Tree → Tree → Bool
+among [] t = false
+among (x ∷ xs) t = same x t || among xs t
