@@ -1,4 +1,5 @@
 pub mod Comparing
 pub mod Memory
+pub mod Settling
 pub mod Fitting
 pub mod Marked
