@@ -31,3 +31,7 @@ or-neither false y e = (refl, e)
 pub not-passes : (x : Bool) → not x ≡ true → x ≡ false
 not-passes true e = cc
 not-passes false e = refl
+
+pub not-fails : (x : Bool) → not x ≡ false → x ≡ true
+not-fails true e = refl
+not-fails false e = cc

@@ -2,4 +2,6 @@ pub mod Comparing
 pub mod Memory
 pub mod Settling
 pub mod Fitting
+pub mod Reading
+pub mod Orderly
 pub mod Marked

@@ -4,31 +4,12 @@ use mathlib.Core.Path.{_≡_, refl, ap, sym, _∙_}
 use mathlib.Core.Logic.{_≢_}
 use mathlib.Core.Bool.{Bool, true, false, cond, _&&_}
 use mathlib.Core.List.{List, [], _∷_, _++_}
-use borrow.Author.Tests.{eq-eqb, eqb-true}
 use Rattle.symbol.specs.declared.Loc.{Loc}
-use Rattle.symbol.specs.declared.Loc.the-variants.{Stack, Mem, Param}
 use Rattle.symbol.specs.Place.{samePlace}
+pub use Rattle.symbol.proofs.Laws.{same-place-self, same-place-equal}
 use Rattle.definitions.specs.Tree.{One, unary, function1, Two, binary, choice, function2, Tree, constant, variable, one, two}
 use Rattle.definitions.specs.Statement.{Statement, target, source}
 use Rattle.definitions.specs.Meaning.{Meaning, Memory, put, value, oneValue, twoValue, perform, performAll}
-
-pub same-place-self : (p : Loc) → samePlace p p ≡ true
-unfolding samePlace
-same-place-self (Stack i) = eq-eqb i i refl
-same-place-self (Mem i) = eq-eqb i i refl
-same-place-self (Param i) = eq-eqb i i refl
-
-pub same-place-equal : (p q : Loc) → samePlace p q ≡ true → p ≡ q
-unfolding samePlace
-same-place-equal (Stack i) (Stack j) e = ap Stack (eqb-true i j e)
-same-place-equal (Stack i) (Mem j) e = cc
-same-place-equal (Stack i) (Param j) e = cc
-same-place-equal (Mem i) (Stack j) e = cc
-same-place-equal (Mem i) (Mem j) e = ap Mem (eqb-true i j e)
-same-place-equal (Mem i) (Param j) e = cc
-same-place-equal (Param i) (Stack j) e = cc
-same-place-equal (Param i) (Mem j) e = cc
-same-place-equal (Param i) (Param j) e = ap Param (eqb-true i j e)
 
 module _ {A : Type 0} where
   pub put-same : (mem : Memory A) (p : Loc) (v : A) → put mem p v p ≡ v

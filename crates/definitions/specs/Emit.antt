@@ -4,7 +4,7 @@ use mathlib.Core.Bool.{Bool, true, false, cond, _&&_}
 use mathlib.Core.List.{List, [], _∷_, _++_}
 use lib.Dec.{eqb}
 use Rattle.symbol.specs.declared.Loc.{Loc}
-use Rattle.operation.specs.Codes.{minus, times, divide, xor, floor, fusesLeft, fusesRight, unaryForm, binaryForm}
+use Rattle.operation.specs.Codes.{minusCode, timesCode, divideCode, xorCode, floorCode, fusesLeft, fusesRight, unaryForm, binaryForm}
 use Rattle.operation.specs.declared.UnaryForm.{UnaryForm}
 use Rattle.operation.specs.declared.UnaryForm.the-variants.{Plain, Square, Cube, Frac, Cancel}
 use Rattle.operation.specs.declared.BinaryForm.{BinaryForm}
@@ -20,16 +20,16 @@ last b e = b + e - 1
 -- 'Square is x × x; cube is x × (x × x) through Temp; frac is x − floor x through Temp; times_i and times_neg_i are x xor x'
 abbrev pub unaryOps : UnaryForm → (c d s : ℕ) → List Op
 unaryOps Plain c d s = opUni c d s ∷ []
-unaryOps Square c d s = opBi times d s s ∷ []
-unaryOps Cube c d s = opBi times Temp s s ∷ opBi times d s Temp ∷ []
-unaryOps Frac c d s = opUni floor Temp s ∷ opBi minus d s Temp ∷ []
-unaryOps Cancel c d s = opBi xor d s s ∷ []
+unaryOps Square c d s = opBi timesCode d s s ∷ []
+unaryOps Cube c d s = opBi timesCode Temp s s ∷ opBi timesCode d s Temp ∷ []
+unaryOps Frac c d s = opUni floorCode Temp s ∷ opBi minusCode d s Temp ∷ []
+unaryOps Cancel c d s = opBi xorCode d s s ∷ []
 
 -- 'rem is x − floor(x / y) × y through Ret'
 abbrev pub binaryOps : BinaryForm → (c d s1 s2 : ℕ) → List Op
 binaryOps Direct c d s1 s2 = opBi c d s1 s2 ∷ []
 binaryOps Remainder c d s1 s2 =
-    opBi divide Ret s1 s2 ∷ opUni floor Ret Ret ∷ opBi times Ret Ret s2 ∷ opBi minus d s1 Ret ∷ []
+    opBi divideCode Ret s1 s2 ∷ opUni floorCode Ret Ret ∷ opBi timesCode Ret Ret s2 ∷ opBi minusCode d s1 Ret ∷ []
 
 -- a register's value to another register, if it is another
 abbrev pub move : (d s : ℕ) → List Op

@@ -11,4 +11,3 @@ pub mod Text
 pub mod Meaning
 pub mod Run
 pub mod Demand
-pub mod Marked

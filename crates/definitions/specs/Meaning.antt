@@ -5,7 +5,7 @@ use mathlib.Core.Bool.{Bool, true, false, cond, _&&_, _||_, not}
 use mathlib.Core.List.{List, [], _∷_, _++_}
 use Rattle.symbol.specs.declared.Loc.{Loc}
 use Rattle.symbol.specs.Place.{samePlace}
-use Rattle.operation.specs.Codes.{minus, times, divide, xor, floor, commutes, unaryForm, binaryForm}
+use Rattle.operation.specs.Codes.{minusCode, timesCode, divideCode, xorCode, floorCode, commutes, unaryForm, binaryForm}
 use Rattle.operation.specs.declared.UnaryForm.{UnaryForm}
 use Rattle.operation.specs.declared.UnaryForm.the-variants.{Plain, Square, Cube, Frac, Cancel}
 use Rattle.operation.specs.declared.BinaryForm.{BinaryForm}
@@ -40,14 +40,14 @@ module _ (m : Meaning) where
   -- 'The expansions above fix those they name'
   abbrev pub unaryBy : UnaryForm → ℕ → m .Value → m .Value
   unaryBy Plain c x = m .unaryOf c x
-  unaryBy Square c x = m .binaryOf times x x
-  unaryBy Cube c x = m .binaryOf times x (m .binaryOf times x x)
-  unaryBy Frac c x = m .binaryOf minus x (m .unaryOf floor x)
-  unaryBy Cancel c x = m .binaryOf xor x x
+  unaryBy Square c x = m .binaryOf timesCode x x
+  unaryBy Cube c x = m .binaryOf timesCode x (m .binaryOf timesCode x x)
+  unaryBy Frac c x = m .binaryOf minusCode x (m .unaryOf floorCode x)
+  unaryBy Cancel c x = m .binaryOf xorCode x x
 
   abbrev pub binaryBy : BinaryForm → ℕ → m .Value → m .Value → m .Value
   binaryBy Direct c x y = m .binaryOf c x y
-  binaryBy Remainder c x y = m .binaryOf minus x (m .binaryOf times (m .unaryOf floor (m .binaryOf divide x y)) y)
+  binaryBy Remainder c x y = m .binaryOf minusCode x (m .binaryOf timesCode (m .unaryOf floorCode (m .binaryOf divideCode x y)) y)
 
   unfoldable pub unaryValue : ℕ → m .Value → m .Value
   unaryValue c x = unaryBy (unaryForm c) c x

@@ -1,0 +1,13 @@
+//! The oracle as a library: sheets to lists through the Rust, and random sheets.
+
+pub mod compile;
+pub mod damage;
+pub mod differences;
+pub mod generate;
+pub mod grow;
+pub mod sheet;
+pub mod text;
+
+// The Rust keeps much that compile_mir never reaches.
+#[allow(warnings)]
+pub mod rust;
