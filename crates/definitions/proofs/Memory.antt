@@ -7,7 +7,11 @@ use mathlib.Core.List.{List, [], _∷_, _++_}
 use Rattle.symbol.specs.declared.Loc.{Loc}
 use Rattle.symbol.specs.Place.{samePlace}
 pub use Rattle.symbol.proofs.Laws.{same-place-self, same-place-equal}
-use Rattle.definitions.specs.Tree.{One, unary, function1, Two, binary, choice, function2, Tree, constant, variable, one, two}
+use Rattle.operation.specs.declared.One.{One}
+use Rattle.operation.specs.declared.One.the-variants.{Unary, Function1}
+use Rattle.operation.specs.declared.Two.{Two}
+use Rattle.operation.specs.declared.Two.the-variants.{Binary, Choice, Function2}
+use Rattle.definitions.specs.Tree.{Tree, constant, variable, one, two}
 use Rattle.definitions.specs.Statement.{Statement, target, source}
 use Rattle.definitions.specs.Meaning.{Meaning, Memory, put, value, oneValue, twoValue, perform, performAll}
 
@@ -26,9 +30,9 @@ module _ {A : Type 0} where
 
 -- P holds of the place that a choice looks at
 abbrev pub Looks : (Loc → Type 0) → Two → Type 0
-Looks P (binary c) = Unit {0}
-Looks P (choice p) = P p
-Looks P (function2 f) = Unit {0}
+Looks P (Binary c) = Unit {0}
+Looks P (Choice p) = P p
+Looks P (Function2 f) = Unit {0}
 
 -- P holds of every place that the tree reads
 unfoldable pub Reads : (Loc → Type 0) → Tree → Type 0
@@ -38,9 +42,9 @@ Reads P (one o a) = Reads P a
 Reads P (two o l r) = Looks P o × Reads P l × Reads P r
 
 pub looks-more : (P Q : Loc → Type 0) → ((p : Loc) → P p → Q p) → (o : Two) → Looks P o → Looks Q o
-looks-more P Q k (binary c) h = tt
-looks-more P Q k (choice p) h = k p h
-looks-more P Q k (function2 f) h = tt
+looks-more P Q k (Binary c) h = tt
+looks-more P Q k (Choice p) h = k p h
+looks-more P Q k (Function2 f) h = tt
 
 pub reads-more : (P Q : Loc → Type 0) → ((p : Loc) → P p → Q p) → (t : Tree) → Reads P t → Reads Q t
 unfolding Reads
@@ -52,9 +56,9 @@ reads-more P Q k (two o l r) h = (looks-more P Q k o (h .0), reads-more P Q k l 
 module _ (m : Meaning) where
   two-agrees : (P : Loc → Type 0) (μ ν : Memory (m .Value)) → ((p : Loc) → P p → μ p ≡ ν p) → (o : Two) → Looks P o →
       (x y : m .Value) → twoValue m μ o x y ≡ twoValue m ν o x y
-  two-agrees P μ ν k (binary c) h x y = refl
-  two-agrees P μ ν k (choice p) h x y = cc (k p h)
-  two-agrees P μ ν k (function2 f) h x y = refl
+  two-agrees P μ ν k (Binary c) h x y = refl
+  two-agrees P μ ν k (Choice p) h x y = cc (k p h)
+  two-agrees P μ ν k (Function2 f) h x y = refl
 
   -- memories that agree on what a tree reads give it one value
   pub value-agrees : (P : Loc → Type 0) (μ ν : Memory (m .Value)) → ((p : Loc) → P p → μ p ≡ ν p) → (t : Tree) → Reads P t →

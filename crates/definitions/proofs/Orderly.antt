@@ -9,7 +9,9 @@ use native.Mathlib.Nat.{eq-of-mul-eq-mul-left}
 use Rattle.symbol.specs.declared.Loc.{Loc}
 use Rattle.symbol.specs.declared.Loc.the-variants.{Stack, Mem, Param}
 use Rattle.symbol.specs.Place.{samePlace, kindOf}
-use Rattle.definitions.specs.Tree.{Two, binary, choice, function2, Tree, constant, variable, one, two, reads, condition}
+use Rattle.operation.specs.declared.Two.{Two}
+use Rattle.operation.specs.declared.Two.the-variants.{Binary, Choice, Function2}
+use Rattle.definitions.specs.Tree.{Tree, constant, variable, one, two, reads, condition}
 use Rattle.definitions.specs.Statement.{Statement, assign, call, target, source}
 use Rattle.definitions.specs.Sheet.{step, firstTemporary}
 use Rattle.definitions.specs.Answer.{temporary}
@@ -44,9 +46,9 @@ is-in-first q xs = rw (same-place-self q)
 
 -- what a tree reads is in the list of its reads
 looks-listed : (o : Two) (P : Loc → Type 0) → ((q : Loc) → isIn (condition o) q ≡ true → P q) → Looks P o
-looks-listed (binary c) P k = tt
-looks-listed (choice p) P k = k p (is-in-first p [])
-looks-listed (function2 f) P k = tt
+looks-listed (Binary c) P k = tt
+looks-listed (Choice p) P k = k p (is-in-first p [])
+looks-listed (Function2 f) P k = tt
 
 reads-listed : (t : Tree) (P : Loc → Type 0) → ((q : Loc) → isIn (reads t) q ≡ true → P q) → Reads P t
 unfolding Reads reads
@@ -60,9 +62,9 @@ reads-listed (two o l r) P k = (
 )
 
 looks-both : (P Q : Loc → Type 0) (o : Two) → Looks P o → Looks Q o → Looks (λ q. P q × Q q) o
-looks-both P Q (binary c) h k = tt
-looks-both P Q (choice p) h k = (h, k)
-looks-both P Q (function2 f) h k = tt
+looks-both P Q (Binary c) h k = tt
+looks-both P Q (Choice p) h k = (h, k)
+looks-both P Q (Function2 f) h k = tt
 
 reads-both : (P Q : Loc → Type 0) (t : Tree) → Reads P t → Reads Q t → Reads (λ q. P q × Q q) t
 unfolding Reads

@@ -11,7 +11,11 @@ use Rattle.symbol.specs.declared.Loc.{Loc}
 use Rattle.symbol.specs.declared.Loc.the-variants.{Stack, Mem, Param}
 use Rattle.symbol.specs.Place.{placeOf}
 use Rattle.operation.specs.Codes.{isUnary, isBinary}
-use Rattle.definitions.specs.Tree.{One, unary, function1, Two, binary, choice, function2, Tree, constant, variable, one, two, weight}
+use Rattle.operation.specs.declared.One.{One}
+use Rattle.operation.specs.declared.One.the-variants.{Unary, Function1}
+use Rattle.operation.specs.declared.Two.{Two}
+use Rattle.operation.specs.declared.Two.the-variants.{Binary, Choice, Function2}
+use Rattle.definitions.specs.Tree.{Tree, constant, variable, one, two, weight}
 use Rattle.definitions.specs.Statement.{Statement, assign, call, target, source}
 use Rattle.definitions.specs.Sheet.{Read, got, bad, andThen, Bytes, byte, number16, scratchCount, step, statementCount, firstTemporary, fileFits, headerFits, Pair, pairs, pairsFit, part, upTo, isTemporary, placeAt, TreeReader, under1, under2, constantAt, variableAt, unaryAt, binaryAt, choiceAt, function1At, function2At, byTag, atTag, treeAt, statementAt, statementsAt, sheetOf}
 use Rattle.definitions.proofs.Comparing.{and-both, not-fails}

@@ -9,7 +9,11 @@ use Rattle.operation.specs.declared.UnaryForm.{UnaryForm}
 use Rattle.operation.specs.declared.UnaryForm.the-variants.{Plain, Square, Cube, Frac, Cancel}
 use Rattle.operation.specs.declared.BinaryForm.{BinaryForm}
 use Rattle.operation.specs.declared.BinaryForm.the-variants.{Direct, Remainder}
-use Rattle.definitions.specs.Tree.{One, unary, function1, Two, binary, choice, function2, Tree, constant, variable, one, two, ershov, join}
+use Rattle.operation.specs.declared.One.{One}
+use Rattle.operation.specs.declared.One.the-variants.{Unary, Function1}
+use Rattle.operation.specs.declared.Two.{Two}
+use Rattle.operation.specs.declared.Two.the-variants.{Binary, Choice, Function2}
+use Rattle.definitions.specs.Tree.{Tree, constant, variable, one, two, ershov, join}
 use Rattle.definitions.specs.Statement.{callTree, Statement, assign, call}
 use Rattle.definitions.specs.Operations.{Op, opConst, opLoad, opSave, opMove, opSwap, opUni, opBi, opIfelse, opLoadmath, opConstmath, opCall, Left, Right, Temp, Ret}
 
@@ -47,13 +51,13 @@ setupBinary l r = setupBy (eqb l Right) (eqb r Left) l r
 
 -- an operator's own operations, from the registers of its sides to a destination; a call leaves its value in Ret
 abbrev pub oneOps : One → (d s : ℕ) → List Op
-oneOps (unary c) d s = unaryOps (unaryForm c) c d s
-oneOps (function1 f) d s = move Left s ++ (opCall f 1 ∷ [])
+oneOps (Unary c) d s = unaryOps (unaryForm c) c d s
+oneOps (Function1 f) d s = move Left s ++ (opCall f 1 ∷ [])
 
 abbrev pub twoOps : Two → (d s1 s2 : ℕ) → List Op
-twoOps (binary c) d s1 s2 = binaryOps (binaryForm c) c d s1 s2
-twoOps (choice p) d s1 s2 = opIfelse d s1 s2 p ∷ []
-twoOps (function2 f) d s1 s2 = setupBinary s1 s2 ++ (opCall f 2 ∷ [])
+twoOps (Binary c) d s1 s2 = binaryOps (binaryForm c) c d s1 s2
+twoOps (Choice p) d s1 s2 = opIfelse d s1 s2 p ∷ []
+twoOps (Function2 f) d s1 s2 = setupBinary s1 s2 ++ (opCall f 2 ∷ [])
 
 -- how a leaf can be taken from its place
 pub data Leaf : Type 0 where
@@ -94,9 +98,9 @@ fusePlan c left right =
 
 -- 'With fused loads (`is_amd64`), plus, minus, times, divide ... on the right, else plus, times ... on the left'
 unfoldable pub plan : (fused : Bool) → Two → Leaf → Leaf → Plan
-plan fused (binary c) left right = fusePlan c (allowed (fused && fusesLeft c) left) (allowed (fused && fusesRight c) right)
-plan fused (choice p) left right = inRegisters
-plan fused (function2 f) left right = inRegisters
+plan fused (Binary c) left right = fusePlan c (allowed (fused && fusesLeft c) left) (allowed (fused && fusesRight c) right)
+plan fused (Choice p) left right = inRegisters
+plan fused (Function2 f) left right = inRegisters
 
 -- 'Equal sides: left at b + 1, then right at b. Otherwise the larger side first, both at b'
 abbrev pub sidesBy : Ordering → (b : ℕ) (left right : ℕ → List Op) → List Op

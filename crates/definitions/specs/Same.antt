@@ -5,31 +5,35 @@ use mathlib.Core.List.{List, [], _∷_}
 use lib.Dec.{eqb}
 use Rattle.symbol.specs.Place.{samePlace}
 use Rattle.operation.specs.Codes.{commutes}
-use Rattle.definitions.specs.Tree.{One, unary, function1, Two, binary, choice, function2, Tree, constant, variable, one, two}
+use Rattle.operation.specs.declared.One.{One}
+use Rattle.operation.specs.declared.One.the-variants.{Unary, Function1}
+use Rattle.operation.specs.declared.Two.{Two}
+use Rattle.operation.specs.declared.Two.the-variants.{Binary, Choice, Function2}
+use Rattle.definitions.specs.Tree.{Tree, constant, variable, one, two}
 
 abbrev pub sameOne : One → One → Bool
-sameOne (unary c) (unary d) = eqb c d
-sameOne (unary c) (function1 g) = false
-sameOne (function1 f) (unary d) = false
-sameOne (function1 f) (function1 g) = eqb f g
+sameOne (Unary c) (Unary d) = eqb c d
+sameOne (Unary c) (Function1 g) = false
+sameOne (Function1 f) (Unary d) = false
+sameOne (Function1 f) (Function1 g) = eqb f g
 
 -- 'a choice's condition place counts'
 abbrev pub sameTwo : Two → Two → Bool
-sameTwo (binary c) (binary d) = eqb c d
-sameTwo (binary c) (choice q) = false
-sameTwo (binary c) (function2 g) = false
-sameTwo (choice p) (binary d) = false
-sameTwo (choice p) (choice q) = samePlace p q
-sameTwo (choice p) (function2 g) = false
-sameTwo (function2 f) (binary d) = false
-sameTwo (function2 f) (choice q) = false
-sameTwo (function2 f) (function2 g) = eqb f g
+sameTwo (Binary c) (Binary d) = eqb c d
+sameTwo (Binary c) (Choice q) = false
+sameTwo (Binary c) (Function2 g) = false
+sameTwo (Choice p) (Binary d) = false
+sameTwo (Choice p) (Choice q) = samePlace p q
+sameTwo (Choice p) (Function2 g) = false
+sameTwo (Function2 f) (Binary d) = false
+sameTwo (Function2 f) (Choice q) = false
+sameTwo (Function2 f) (Function2 g) = eqb f g
 
 -- may the sides be exchanged
 abbrev pub exchanges : Two → Bool
-exchanges (binary c) = commutes c
-exchanges (choice p) = false
-exchanges (function2 f) = false
+exchanges (Binary c) = commutes c
+exchanges (Choice p) = false
+exchanges (Function2 f) = false
 
 -- 'equal, allowing both sides of a commuting operation to be exchanged at any depth'
 unfoldable pub same : Tree → Tree → Bool

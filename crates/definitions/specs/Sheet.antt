@@ -7,7 +7,11 @@ use lib.Dec.{eqb, leb, ltb}
 use Rattle.symbol.specs.declared.Loc.{Loc}
 use Rattle.symbol.specs.Place.{placeOf}
 use Rattle.operation.specs.Codes.{isUnary, isBinary}
-use Rattle.definitions.specs.Tree.{One, unary, function1, Two, binary, choice, function2, Tree, constant, variable, one, two, weight}
+use Rattle.operation.specs.declared.One.{One}
+use Rattle.operation.specs.declared.One.the-variants.{Unary, Function1}
+use Rattle.operation.specs.declared.Two.{Two}
+use Rattle.operation.specs.declared.Two.the-variants.{Binary, Choice, Function2}
+use Rattle.definitions.specs.Tree.{Tree, constant, variable, one, two, weight}
 use Rattle.definitions.specs.Statement.{Statement, assign}
 
 -- what was read, with the position after it; or the number of the refusal
@@ -138,20 +142,20 @@ variableAt first s at = andThen (placeAt 3 first s (at + 1)) λ p end. got (vari
 
 abbrev pub unaryAt : TreeReader → List ℕ → TreeReader
 unaryAt tree s at nodes =
-    upTo s (at + 1) (cond (isUnary (byte s (at + 1))) (under1 tree (unary (byte s (at + 1))) (at + 2) nodes) (bad 5))
+    upTo s (at + 1) (cond (isUnary (byte s (at + 1))) (under1 tree (Unary (byte s (at + 1))) (at + 2) nodes) (bad 5))
 
 abbrev pub binaryAt : TreeReader → List ℕ → TreeReader
 binaryAt tree s at nodes =
-    upTo s (at + 1) (cond (isBinary (byte s (at + 1))) (under2 tree (binary (byte s (at + 1))) (at + 2) nodes) (bad 5))
+    upTo s (at + 1) (cond (isBinary (byte s (at + 1))) (under2 tree (Binary (byte s (at + 1))) (at + 2) nodes) (bad 5))
 
 abbrev pub choiceAt : TreeReader → ℕ → List ℕ → TreeReader
-choiceAt tree first s at nodes = andThen (placeAt 3 first s (at + 1)) λ p at′. under2 tree (choice p) at′ nodes
+choiceAt tree first s at nodes = andThen (placeAt 3 first s (at + 1)) λ p at′. under2 tree (Choice p) at′ nodes
 
 abbrev pub function1At : TreeReader → List ℕ → TreeReader
-function1At tree s at nodes = upTo s (at + 1) (under1 tree (function1 (byte s (at + 1))) (at + 2) nodes)
+function1At tree s at nodes = upTo s (at + 1) (under1 tree (Function1 (byte s (at + 1))) (at + 2) nodes)
 
 abbrev pub function2At : TreeReader → List ℕ → TreeReader
-function2At tree s at nodes = upTo s (at + 1) (under2 tree (function2 (byte s (at + 1))) (at + 2) nodes)
+function2At tree s at nodes = upTo s (at + 1) (under2 tree (Function2 (byte s (at + 1))) (at + 2) nodes)
 
 abbrev pub byTag : TreeReader → ℕ → List ℕ → TreeReader
 byTag tree first s at nodes =

@@ -2,7 +2,9 @@
 use Prim.Native.Nat.{ℕ}
 use mathlib.Core.List.{List, [], _∷_}
 use Rattle.symbol.specs.declared.Loc.{Loc}
-use Rattle.definitions.specs.Tree.{function1, function2, Tree, one, two}
+use Rattle.operation.specs.declared.One.the-variants.{Function1}
+use Rattle.operation.specs.declared.Two.the-variants.{Function2}
+use Rattle.definitions.specs.Tree.{Tree, one, two}
 
 -- a call of a function, with its trimmed arguments
 pub data Call : Type 0 where
@@ -11,8 +13,8 @@ pub data Call : Type 0 where
 
 -- the tree that a call works out
 abbrev pub callTree : Call → Tree
-callTree (call1 f a) = one (function1 f) a
-callTree (call2 f l r) = two (function2 f) l r
+callTree (call1 f a) = one (Function1 f) a
+callTree (call2 f l r) = two (Function2 f) l r
 
 -- a place gets a tree's value, or a call's; a sheet as read has assignments only
 pub data Statement : Type 0 where
