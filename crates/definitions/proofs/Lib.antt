@@ -4,4 +4,9 @@ pub mod Settling
 pub mod Fitting
 pub mod Reading
 pub mod Orderly
+pub mod Registers
+pub mod Evaluation
+pub mod Pieces
+pub mod Statements
+pub mod Words
 pub mod Marked
