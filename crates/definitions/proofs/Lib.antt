@@ -9,4 +9,10 @@ pub mod Evaluation
 pub mod Pieces
 pub mod Statements
 pub mod Words
+pub mod Sameness
+pub mod Calling
+pub mod TrimFits
+pub mod TrimTouches
+pub mod TrimKeeps
+pub mod TrimAgrees
 pub mod Marked
