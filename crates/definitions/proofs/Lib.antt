@@ -10,9 +10,15 @@ pub mod Pieces
 pub mod Statements
 pub mod Words
 pub mod Sameness
+pub mod Rewriting
+pub mod EliminateAgrees
+pub mod EliminateSettles
 pub mod Calling
 pub mod TrimFits
 pub mod TrimTouches
 pub mod TrimKeeps
 pub mod TrimAgrees
+pub mod Compiling
+pub mod Accepting
+pub mod Demand
 pub mod Marked

@@ -54,7 +54,7 @@ reads-more P Q k (one o a) h = reads-more P Q k a h
 reads-more P Q k (two o l r) h = (looks-more P Q k o (h .0), reads-more P Q k l (h .1), reads-more P Q k r (h .2))
 
 module _ (m : Meaning) where
-  two-agrees : (P : Loc → Type 0) (μ ν : Memory (m .Value)) → ((p : Loc) → P p → μ p ≡ ν p) → (o : Two) → Looks P o →
+  pub two-agrees : (P : Loc → Type 0) (μ ν : Memory (m .Value)) → ((p : Loc) → P p → μ p ≡ ν p) → (o : Two) → Looks P o →
       (x y : m .Value) → twoValue m μ o x y ≡ twoValue m ν o x y
   two-agrees P μ ν k (Binary c) h x y = refl
   two-agrees P μ ν k (Choice p) h x y = cc (k p h)

@@ -18,6 +18,7 @@ use Rattle.operation.specs.declared.Two.the-variants.{Binary, Choice, Function2
 use Rattle.definitions.specs.Tree.{Tree, constant, variable, one, two, weight}
 use Rattle.definitions.specs.Statement.{Statement, assign, call, target, source}
 use Rattle.definitions.specs.Sheet.{Read, got, bad, andThen, Bytes, byte, number16, scratchCount, step, statementCount, firstTemporary, fileFits, headerFits, Pair, pairs, pairsFit, part, upTo, isTemporary, placeAt, TreeReader, under1, under2, constantAt, variableAt, unaryAt, binaryAt, choiceAt, function1At, function2At, byTag, atTag, treeAt, statementAt, statementsAt, sheetOf}
+use Rattle.definitions.proofs.Settling.{AssignmentsOnly}
 use Rattle.definitions.proofs.Comparing.{and-both, not-fails}
 use Rattle.definitions.proofs.Memory.{Looks, Reads, Touch}
 
@@ -195,4 +196,37 @@ sheet-header file ss nodes e =
     (ok-cond (not (fileFits file)) (λ _. refused)
     (λ _. ok-cond (not (headerFits file)) (λ _. refused)
     (λ k. ok-known _ (header-ranges file (not-fails (headerFits file) k)))))
+    e
+
+abbrev IsAssignment : Statement → Type 0
+IsAssignment (assign p t) = Unit {0}
+IsAssignment (call p c) = ⊥
+
+assigns-first : (s : Statement) (ss : List Statement) → IsAssignment s → AssignmentsOnly ss → AssignmentsOnly (s ∷ ss)
+unfolding AssignmentsOnly
+assigns-first (assign p t) ss h k = k
+assigns-first (call p c) ss h k = absurd h
+
+statement-assigns : (first nodes : ℕ) (s : List ℕ) → Ok IsAssignment (statementAt first nodes s)
+unfolding statementAt
+statement-assigns first nodes s =
+    ok-then {Q = λ p. Unit {0}} _ (ok-known (placeAt 2 first s 0) tt) λ p at k.
+    ok-then {Q = λ t. Unit {0}} _ (ok-known (treeAt first 64 s at nodes) tt) λ t end j.
+    ok-test 5 (eqb end (length s)) (accepted tt)
+
+statements-assign : (file : List ℕ) (nodes : ℕ) (ps : List Pair) → Ok AssignmentsOnly (statementsAt file nodes ps)
+unfolding statementsAt AssignmentsOnly
+statements-assign file nodes [] = accepted tt
+statements-assign file nodes (p ∷ ps) =
+    ok-then _ (statement-assigns (firstTemporary file) nodes (part file p)) λ s n k.
+    ok-then _ (statements-assign file n ps) λ ss m j.
+    accepted (assigns-first s ss k j)
+
+pub sheet-assigns : (file : List ℕ) (ss : List Statement) (nodes : ℕ) → sheetOf file ≡ got ss nodes → AssignmentsOnly ss
+unfolding sheetOf
+sheet-assigns file ss nodes e =
+    ok-got
+    (ok-cond (not (fileFits file)) (λ _. refused)
+    (λ _. ok-cond (not (headerFits file)) (λ _. refused)
+    (λ _. ok-cond (not (pairsFit file)) (λ _. refused) (λ _. statements-assign file 0 (pairs file)))))
     e

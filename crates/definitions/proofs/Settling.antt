@@ -21,3 +21,9 @@ unfoldable pub Settled : (Loc → Type 0) → List Statement → Type 0
 Settled P [] = Unit {0}
 Settled P (assign p t ∷ ss) = P p × Reads (λ q. P q × Unassigned (assign p t ∷ ss) q) t × Settled P ss
 Settled P (call p c ∷ ss) = ⊥
+
+-- statements as a sheet has them: assignments only
+unfoldable pub AssignmentsOnly : List Statement → Type 0
+AssignmentsOnly [] = Unit {0}
+AssignmentsOnly (assign p t ∷ ss) = AssignmentsOnly ss
+AssignmentsOnly (call p c ∷ ss) = ⊥

@@ -1,5 +1,5 @@
 -- The words of a list are six an operation and give its operations back; what registers and places an emitted list names.
-use Prim.Native.Nat.{ℕ, _+_, _*_, _/_, _%_, _≤_, _<_, compare, Ordering, Ordering·lt, Ordering·eq, Ordering·gt}
+use Prim.Native.Nat.{ℕ, _-_, _+_, _*_, _/_, _%_, _≤_, _<_, compare, Ordering, Ordering·lt, Ordering·eq, Ordering·gt}
 use mathlib.Core.Path.{_≡_, refl, ap, _∙_}
 use mathlib.Core.Logic.{_≢_, inl, inr}
 use mathlib.Core.Bool.{Bool, true, false, cond, _&&_, true≢false}
@@ -26,9 +26,9 @@ use Rattle.definitions.specs.Statement.{call1, call2, Statement, assign,
 use Rattle.definitions.specs.Trim.{tooWide}
 use Rattle.definitions.specs.Operations.{Op, opConst, opLoad, opSave, opMove, opSwap, opUni, opBi, opIfelse, opLoadmath, opConstmath, opCall, opWords, listWords, wordsOp, wordsList, Left, Right, Temp, Ret}
 use Rattle.definitions.specs.Emit.{last, unaryOps, binaryOps, oneOps, twoOps, move, setupBy, setupBinary, evaluate, statementOps, emitAll}
-use Rattle.definitions.specs.Meaning.{Meaning, Commuting, performAll}
+use Rattle.definitions.specs.Meaning.{Meaning, Commuting, performAll, value}
 use Rattle.definitions.specs.Run.{State, runOps, run}
-use Rattle.definitions.specs.Demand.{Below, Evaluates}
+use Rattle.definitions.specs.Claims.{AllWriteOnly, Below}
 use Rattle.definitions.proofs.Comparing.{Compared, compared, or-neither}
 use Rattle.definitions.proofs.Memory.{Looks, Reads, Touch}
 use Rattle.definitions.proofs.Fitting.{Fits, StatementFits, AllFit}
@@ -224,14 +224,14 @@ emitted-names scratch n P isFused (s ∷ ss) k e h =
     (emitted-names scratch n P isFused ss (k .1) (q .1) (h .2))
 
 module _ (m : Meaning) (commuting : Commuting m) (isFused : Bool) where
-  pub assignment-evaluates : (p : Loc) (t : Tree) → Fits 32 t → SmallPlace p → Reads SmallPlace t → Evaluates m isFused p t
-  assignment-evaluates p t k h j =
-      record {
-        writes = assignment-writes isFused p t (k .free);
-        leaves =
-            λ z. rw (words-run m (statementOps isFused (assign p t)) (statement-places SmallPlace isFused (assign p t) h j) z)
-            (assignment-leaves m commuting isFused p t k z);
-      }
+  pub assignment-evaluates : (z : State (m .Value)) (p : Loc) (t : Tree) → Fits 32 t → SmallPlace p → Reads SmallPlace t →
+      let ops = statementOps isFused (assign p t) in
+      AllWriteOnly (Below (ershov t)) ops × (run m (listWords ops) z .registers (ershov t - 1) ≡ value m (z .memory) t)
+  assignment-evaluates z p t k h j = (
+    assignment-writes isFused p t (k .free),
+    rw (words-run m (statementOps isFused (assign p t)) (statement-places SmallPlace isFused (assign p t) h j) z)
+        (assignment-leaves m commuting isFused p t k z),
+  )
 
   -- the words of a list do to the memory what its statements do
   pub words-perform : (scratch : ℕ) → scratch ≤ 32 → (ss : List Statement) → AllFit scratch ss → Touch SmallPlace SmallPlace ss →
