@@ -28,16 +28,16 @@ pub data Ok {A : Type 0} (P : A → Type 0) : Read A → Type 0 where
   refused : {k : ℕ} → Ok P (bad k)
 
 module _ {A : Type 0} {P : A → Type 0} where
-  ok-cond : (b : Bool) {x y : Read A} → (b ≡ true → Ok P x) → (b ≡ false → Ok P y) → Ok P (cond b x y)
+  pub ok-cond : (b : Bool) {x y : Read A} → (b ≡ true → Ok P x) → (b ≡ false → Ok P y) → Ok P (cond b x y)
   ok-cond true f g = f refl
   ok-cond false f g = g refl
 
   -- a test whose failure is refused with k
-  ok-test : (k : ℕ) (b : Bool) {x : Read A} → Ok P x → Ok P (cond b x (bad k))
+  pub ok-test : (k : ℕ) (b : Bool) {x : Read A} → Ok P x → Ok P (cond b x (bad k))
   ok-test k true h = h
   ok-test k false h = refused
 
-  ok-then : {B : Type 0} {Q : B → Type 0} {r : Read B} (f : B → ℕ → Read A) → Ok Q r → ((b : B) (n : ℕ) → Q b → Ok P (f b n)) →
+  pub ok-then : {B : Type 0} {Q : B → Type 0} {r : Read B} (f : B → ℕ → Read A) → Ok Q r → ((b : B) (n : ℕ) → Q b → Ok P (f b n)) →
       Ok P (andThen r f)
   ok-then f (accepted {a} {n} h) k = k a n h
   ok-then f refused k = refused
@@ -52,13 +52,13 @@ byte-small [] h at = omega arith
 byte-small (b ∷ bs) h zero = h .0
 byte-small (b ∷ bs) h (suc at) = byte-small bs (h .1) at
 
-take-bytes : (n : ℕ) (s : List ℕ) → Bytes s → Bytes (take n s)
+pub take-bytes : (n : ℕ) (s : List ℕ) → Bytes s → Bytes (take n s)
 unfolding Bytes
 take-bytes zero s h = tt
 take-bytes (suc n) [] h = tt
 take-bytes (suc n) (b ∷ bs) h = (h .0, take-bytes n bs (h .1))
 
-drop-bytes : (n : ℕ) (s : List ℕ) → Bytes s → Bytes (drop n s)
+pub drop-bytes : (n : ℕ) (s : List ℕ) → Bytes s → Bytes (drop n s)
 unfolding Bytes
 drop-bytes zero s h = h
 drop-bytes (suc n) [] h = tt
@@ -79,10 +79,10 @@ place-of-sheet first k i e h = by-kind (eqb k 1) (eqb k 2) e
     by-kind false false f = h
 
 module _ (first : ℕ) (s : List ℕ) (bytes : Bytes s) where
-  abbrev P : Loc → Type 0
+  abbrev pub P : Loc → Type 0
   P p = SheetPlace first p
 
-  place-reads : (largest at : ℕ) → Ok P (placeAt largest first s at)
+  pub place-reads : (largest at : ℕ) → Ok P (placeAt largest first s at)
   unfolding placeAt
   place-reads largest at =
       ok-test 5 (ltb at (length s))

@@ -100,3 +100,16 @@ layout n (one o a) = nodeWords (UnaryNode o) (n + 1 + weight a) ++ layout (n + 1
 layout n (two o l r) =
     nodeWords (BinaryNode o (n + 1 + weight l)) (n + 1 + weight l + weight r)
     ++ (layout (n + 1) l ++ layout (n + 1 + weight l) r)
+
+-- trees laid one after another from node n on, the numbers of their roots, and their nodes in all
+unfoldable pub layoutAll : (n : ℕ) → List Tree → List ℕ
+layoutAll n [] = []
+layoutAll n (t ∷ ts) = layout n t ++ layoutAll (n + weight t) ts
+
+unfoldable pub roots : (n : ℕ) → List Tree → List ℕ
+roots n [] = []
+roots n (t ∷ ts) = n ∷ roots (n + weight t) ts
+
+unfoldable pub weights : List Tree → ℕ
+weights [] = 0
+weights (t ∷ ts) = weight t + weights ts
