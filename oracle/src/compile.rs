@@ -18,8 +18,8 @@ use crate::text::{function_number, kind, Listing, Operation, Site, BINARY, RET, 
 pub enum Answer {
     /// A sheet that checks 2 to 7 refuse.
     Unreadable,
-    /// The Rust returned an error.
-    Error,
+    /// The Rust returned an error, after emitting so many operations.
+    Error(usize),
     List(Listing),
 }
 
@@ -27,12 +27,16 @@ pub enum Answer {
 pub fn compile_bytes(bytes: &[u8]) -> Answer {
     match Sheet::read(bytes) {
         Err(_) => Answer::Unreadable,
-        Ok(sheet) => compile_sheet(&sheet, None).map_or(Answer::Error, Answer::List),
+        Ok(sheet) => match compile_sheet(&sheet, None) {
+            Err(emitted) => Answer::Error(emitted),
+            Ok(listing) => Answer::List(listing),
+        },
     }
 }
 
-/// The Rust's list; None where it returns an error. With classes, calls are named by them.
-pub fn compile_sheet(sheet: &Sheet, classes: Option<Classes>) -> Option<Listing> {
+/// The Rust's list; where it returns an error, how many operations it had emitted. With classes, calls are
+/// named by them.
+pub fn compile_sheet(sheet: &Sheet, classes: Option<Classes>) -> Result<Listing, usize> {
     let config =
         Config { sharing: sheet.sharing(), fused: sheet.fused(), scratch: sheet.scratch, df: None };
     let mut builder = Builder::new(config.clone());
@@ -47,8 +51,8 @@ pub fn compile_sheet(sheet: &Sheet, classes: Option<Classes>) -> Option<Listing>
     nodes.symbols.slot_size = sheet.step.into();
     *builder.symbol_table() = nodes.symbols;
     let mut mir = Mir::new(config);
-    builder.compile_mir(&mut mir).ok()?;
-    Some(Listing {
+    builder.compile_mir(&mut mir).map_err(|_| mir.code.records.len())?;
+    Ok(Listing {
         operations: mir.code.records.iter().map(operation).collect(),
         temporaries: builder.block().num_tmp as u32,
     })

@@ -11,7 +11,7 @@ const OUTPUT_WORDS: usize = 16_384;
 /// What document 01 asks for a file: the list, or the number of the refusal.
 pub fn expected(bytes: &[u8]) -> Result<Listing, u8> {
     let sheet = Sheet::read(bytes)?;
-    let mut listing = compile_sheet(&sheet, Some(Classes::default())).ok_or(8)?;
+    let mut listing = compile_sheet(&sheet, Some(Classes::default())).map_err(|_| 8)?;
     if sheet.first as u32 + sheet.step as u32 * listing.temporaries > 65_536 {
         return Err(9);
     }

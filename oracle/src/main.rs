@@ -45,7 +45,7 @@ fn answer_lines(answer: fn(&[u8]) -> String) -> io::Result<()> {
 fn compile_text(bytes: &[u8]) -> String {
     match compile_bytes(bytes) {
         Answer::Unreadable => "unreadable\n".to_string(),
-        Answer::Error => "error\n".to_string(),
+        Answer::Error(emitted) => format!("error after {emitted} operations\n"),
         Answer::List(listing) => listing.to_string(),
     }
 }

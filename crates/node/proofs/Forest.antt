@@ -8,10 +8,10 @@ use lib.ListN.{length, getD, length-append, List·getD-map}
 use lib.Seq.{sets, length-sets}
 use Rattle.definitions.specs.Tree.{Tree, weight}
 use Rattle.node.specs.Nodes.{endAt, tree, Laid, Table, layout, layoutAll, roots, weights}
-use Rattle.node.specs.Sized.{SizedTree, SizedTrees}
+use Rattle.node.specs.Sized.{SizedTrees}
 use Rattle.node.proofs.Stores.{Has, has-left, has-right, sets-have, sets-append}
 use Rattle.node.proofs.Nodes.{below-or, nested, laid-within}
-use Rattle.node.proofs.Laying.{weight-positive, layout-length, Planted, layout-stands, stands-planted}
+use Rattle.node.proofs.Laying.{weight-positive, layout-length, layout-stands, stands-planted}
 
 pub forest-length : (n : ℕ) (ts : List Tree) → length (layoutAll n ts) ≡ 4 * weights ts
 unfolding layoutAll weights
@@ -25,18 +25,18 @@ pub record Forest (ws : List ℕ) (lo hi : ℕ) (ts : List Tree) : Type 0 where
   pub whole : (i : ℕ) → lo ≤ i → i < hi → endAt ws i ≤ hi
   pub trees : map (tree ws) (roots lo ts) ≡ ts
 
-forest-planted : (ws : List ℕ) (n : ℕ) (ts : List Tree) → SizedTrees ts → 4 * (n + weights ts) ≤ length ws → Has ws (4 * n) (layoutAll n ts) →
-    Forest ws n (n + weights ts) ts
+forest-planted : (ws : List ℕ) (n : ℕ) (ts : List Tree) → SizedTrees ts → 4 * (n + weights ts) ≤ length ws →
+    Has ws (4 * n) (layoutAll n ts) → Forest ws n (n + weights ts) ts
 unfolding SizedTrees layoutAll roots weights tree
-forest-planted ws n [] s r h = record { laid = λ i a b. absurd (omega arith); whole = λ i a b. absurd (omega arith); trees = refl }
+forest-planted ws n [] s r h =
+    record { laid = λ i a b. absurd (omega arith); whole = λ i a b. absurd (omega arith); trees = refl }
 forest-planted ws n (t ∷ ts) s r h =
     let m = n + weight t in
     let e : n + (weight t + weights ts) ≡ m + weights ts = omega arith in
-    let p : Planted 64 ws n t
-            = stands-planted ws 64 n t (layout-stands ws n t (s .0) (has-left ws (layout n t) (layoutAll m ts) (4 * n) h)) (s .1) (omega arith) in
-    let f : Forest ws m (m + weights ts) ts
-            = forest-planted ws m ts (s .2) (omega arith)
-            (has-right ws (layout n t) (layoutAll m ts) (4 * n) (4 * m) (omega (arith, layout-length n t)) h) in
+    let first = has-left ws (layout n t) (layoutAll m ts) (4 * n) h in
+    let later = has-right ws (layout n t) (layoutAll m ts) (4 * n) (4 * m) (omega (arith, layout-length n t)) h in
+    let p = stands-planted ws 64 n t (layout-stands ws n t (s .0) first) (s .1) (omega arith) in
+    let f = forest-planted ws m ts (s .2) (omega arith) later in
     let q = p .ends in
     rw e
     record {
@@ -127,6 +127,7 @@ pub forest-grows : (ws : List ℕ) (ts : List Tree) (t : Tree) →
     sets (sets ws 0 (layoutAll 0 ts)) (4 * weights ts) (layout (weights ts) t) ≡ sets ws 0 (layoutAll 0 (ts ++ (t ∷ [])))
 forest-grows ws ts t =
     let z : 0 + weights ts ≡ weights ts = omega arith in
-    let last = rw z at (layout-append 0 ts (t ∷ []) ∙ ap (λ (l : List ℕ). layoutAll 0 ts ++ l) (layout-single (0 + weights ts) t)) in
+    let single = ap (λ (l : List ℕ). layoutAll 0 ts ++ l) (layout-single (0 + weights ts) t) in
+    let last = rw z at (layout-append 0 ts (t ∷ []) ∙ single) in
     sets-append (layoutAll 0 ts) (layout (weights ts) t) ws 0 (4 * weights ts) (omega (arith, forest-length 0 ts))
     ∙ ap (sets ws 0) (sym last)

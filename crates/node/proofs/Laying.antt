@@ -1,7 +1,7 @@
--- What a layout makes true: the words of a tree hold it, and nothing else does. Assumes nothing.
+-- What a layout makes true: the tree stands at its node, with its end, and stores after it keep it. Assumes nothing.
 use mathlib.Core.Path.{_≡_, refl, sym, ap, _∙_}
 use mathlib.Core.List.{List, [], _∷_, _++_}
-use Prim.Native.Nat.{ℕ, zero, suc, _+_, _*_, _%_, _<_, _≤_, max}
+use Prim.Native.Nat.{ℕ, zero, suc, _+_, _*_, _%_, _<_, _≤_}
 use native.Mathlib.Omega.{arith}
 use native.Mathlib.Nat.{add-zero}
 use lib.ListN.{length, getD, length-append}
@@ -14,9 +14,9 @@ use Rattle.operation.specs.declared.Two.the-variants.{Binary, Choice, Function2
 use Rattle.definitions.specs.Tree.{Tree, constant, variable, one, two, weight, depth}
 use Rattle.node.specs.declared.Node.{Node}
 use Rattle.node.specs.declared.Node.the-variants.{Const, Var, Unary as UnaryNode, Binary as BinaryNode}
-use Rattle.node.specs.Nodes.{nodeWords, nodeOf, nodeAt, endAt, nodeTree, treeFrom, Lies, Laid, layout}
-use Rattle.node.specs.Sized.{SizedOne, SizedTwo, SizedNode, SizedTree}
-use Rattle.node.proofs.Stores.{Has, has-left, has-right, sets-have, sets-keep-before}
+use Rattle.node.specs.Nodes.{nodeWords, nodeOf, nodeAt, endAt, treeFrom, tree, Laid, layout}
+use Rattle.node.specs.Sized.{SizedNode, SizedTree}
+use Rattle.node.proofs.Stores.{Has, has-left, has-right, sets-have, sets-keep-before, sets-append, sets-prepend}
 use Rattle.node.proofs.Nodes.{Keeps, laid-end, laid-frame, from-frame, end-frame}
 
 pub weight-positive : (t : Tree) → 0 < weight t
@@ -26,19 +26,50 @@ weight-positive (variable p) = omega arith
 weight-positive (one o a) = omega arith
 weight-positive (two o l r) = omega arith
 
+pub depth-positive : (t : Tree) → 0 < depth t
+unfolding depth
+depth-positive (constant k) = omega arith
+depth-positive (variable p) = omega arith
+depth-positive (one o a) = omega arith
+depth-positive (two o l r) = omega arith
+
 pub layout-length : (n : ℕ) (t : Tree) → length (layout n t) ≡ 4 * weight t
 unfolding layout weight
 layout-length n (constant k) = refl
 layout-length n (variable p) = refl
 layout-length n (one o a) = omega (arith, layout-length (n + 1) a)
 layout-length n (two o l r) =
-    omega
-    (arith, length-append (layout (n + 1) l) (layout (n + 1 + weight l) r), layout-length (n + 1) l,
-    layout-length (n + 1 + weight l) r)
+    omega (
+      arith,
+      length-append (layout (n + 1) l) (layout (n + 1 + weight l) r),
+      layout-length (n + 1) l,
+      layout-length (n + 1 + weight l) r,
+    )
+
+-- a node's words are stored after those of its sides, since its end is known then
+pub layout-one : (ws : List ℕ) (n : ℕ) (o : One) (a : Tree) →
+    sets (sets ws (4 * (n + 1)) (layout (n + 1) a)) (4 * n) (nodeWords (UnaryNode o) (n + 1 + weight a))
+    ≡ sets ws (4 * n) (layout n (one o a))
+unfolding layout
+layout-one ws n o a =
+    sets-prepend (nodeWords (UnaryNode o) (n + 1 + weight a)) (layout (n + 1) a) ws (4 * n) (4 * (n + 1)) (omega arith)
+
+pub layout-two : (ws : List ℕ) (n : ℕ) (o : Two) (l r : Tree) →
+    sets (sets (sets ws (4 * (n + 1)) (layout (n + 1) l)) (4 * (n + 1 + weight l)) (layout (n + 1 + weight l) r)) (4 * n)
+    (nodeWords (BinaryNode o (n + 1 + weight l)) (n + 1 + weight l + weight r))
+    ≡ sets ws (4 * n) (layout n (two o l r))
+unfolding layout
+layout-two ws n o l r =
+    let m = n + 1 + weight l in
+    let root = nodeWords (BinaryNode o m) (m + weight r) in
+    ap (λ (x : List ℕ). sets x (4 * n) root)
+    (sets-append (layout (n + 1) l) (layout m r) ws (4 * (n + 1)) (4 * m) (omega (arith, layout-length (n + 1) l)))
+    ∙ sets-prepend root (layout (n + 1) l ++ layout m r) ws (4 * n) (4 * (n + 1)) (omega arith)
 
 -- ---- the words of one node
 
-words-node : (ws vs : List ℕ) (i t x r e : ℕ) → Has ws (4 * i) (t ∷ x ∷ r ∷ e ∷ vs) → (nodeAt ws i ≡ nodeOf t x r) × (endAt ws i ≡ e)
+words-node : (ws vs : List ℕ) (i t x r e : ℕ) → Has ws (4 * i) (t ∷ x ∷ r ∷ e ∷ vs) →
+    (nodeAt ws i ≡ nodeOf t x r) × (endAt ws i ≡ e)
 unfolding nodeAt endAt
 words-node ws vs i t x r e h =
     let a = ap (λ (m : ℕ). getD ws m 0) (sym (add-zero (4 * i))) ∙ h 0 (omega arith) in
@@ -84,19 +115,21 @@ unfolding SizedTree layout Stands
 layout-stands ws i (constant k) s h = node-words-back ws [] i (Const k) (i + 1) s h
 layout-stands ws i (variable p) s h = node-words-back ws [] i (Var p) (i + 1) s h
 layout-stands ws i (one o a) s h =
-    let e = i + 1 + weight a in
-    let g = node-words-back ws (layout (i + 1) a) i (UnaryNode o) e (s .0) h in
-    (g .0, g .1,
-    layout-stands ws (i + 1) a (s .1) (has-right ws (nodeWords (UnaryNode o) e) (layout (i + 1) a) (4 * i) (4 * (i + 1)) (omega arith) h))
+    let root = nodeWords (UnaryNode o) (i + 1 + weight a) in
+    let g = node-words-back ws (layout (i + 1) a) i (UnaryNode o) (i + 1 + weight a) (s .0) h in
+    let b = has-right ws root (layout (i + 1) a) (4 * i) (4 * (i + 1)) (omega arith) h in
+    (g .0, g .1, layout-stands ws (i + 1) a (s .1) b)
 layout-stands ws i (two o l r) s h =
     let m = i + 1 + weight l in
-    let e = m + weight r in
-    let g = node-words-back ws (layout (i + 1) l ++ layout m r) i (BinaryNode o m) e (s .0) h in
-    let b = has-right ws (nodeWords (BinaryNode o m) e) (layout (i + 1) l ++ layout m r) (4 * i) (4 * (i + 1)) (omega arith) h in
-    (g .0, g .1,
-    layout-stands ws (i + 1) l (s .1) (has-left ws (layout (i + 1) l) (layout m r) (4 * (i + 1)) b),
-    layout-stands ws m r (s .2)
-    (has-right ws (layout (i + 1) l) (layout m r) (4 * (i + 1)) (4 * m) (omega (arith, layout-length (i + 1) l)) b))
+    let root = nodeWords (BinaryNode o m) (m + weight r) in
+    let g = node-words-back ws (layout (i + 1) l ++ layout m r) i (BinaryNode o m) (m + weight r) (s .0) h in
+    let b = has-right ws root (layout (i + 1) l ++ layout m r) (4 * i) (4 * (i + 1)) (omega arith) h in (
+      g .0,
+      g .1,
+      layout-stands ws (i + 1) l (s .1) (has-left ws (layout (i + 1) l) (layout m r) (4 * (i + 1)) b),
+      layout-stands ws m r (s .2)
+          (has-right ws (layout (i + 1) l) (layout m r) (4 * (i + 1)) (4 * m) (omega (arith, layout-length (i + 1) l)) b),
+    )
 
 stands-end : (ws : List ℕ) (i : ℕ) (t : Tree) → Stands ws i t → endAt ws i ≡ i + weight t
 unfolding Stands weight
@@ -107,10 +140,7 @@ stands-end ws i (two o l r) h = omega (arith, h .1)
 
 stands-tree : (ws : List ℕ) (d i : ℕ) (t : Tree) → Stands ws i t → depth t ≤ d → treeFrom d ws i ≡ t
 unfolding Stands depth treeFrom
-stands-tree ws zero i (constant k) h l = absurd (omega arith)
-stands-tree ws zero i (variable p) h l = absurd (omega arith)
-stands-tree ws zero i (one o a) h l = absurd (omega arith)
-stands-tree ws zero i (two o a b) h l = absurd (omega arith)
+stands-tree ws zero i t h l = absurd (omega (arith, depth-positive t))
 stands-tree ws (suc d) i (constant k) h l = rw (h .0)
 stands-tree ws (suc d) i (variable p) h l = rw (h .0)
 stands-tree ws (suc d) i (one o a) h l = rw (h .0, stands-tree ws d (i + 1) a (h .2) (omega arith))
@@ -119,20 +149,22 @@ stands-tree ws (suc d) i (two o a b) h l =
 
 stands-laid : (ws : List ℕ) (d i : ℕ) (t : Tree) → Stands ws i t → depth t ≤ d → 4 * (i + weight t) ≤ length ws → Laid d ws i
 unfolding Stands depth weight Laid
-stands-laid ws zero i (constant k) h l r = absurd (omega arith)
-stands-laid ws zero i (variable p) h l r = absurd (omega arith)
-stands-laid ws zero i (one o a) h l r = absurd (omega arith)
-stands-laid ws zero i (two o a b) h l r = absurd (omega arith)
+stands-laid ws zero i t h l r = absurd (omega (arith, depth-positive t))
 stands-laid ws (suc d) i (constant k) h l r = (omega arith, rw (h .0) (h .1))
 stands-laid ws (suc d) i (variable p) h l r = (omega arith, rw (h .0) (h .1))
 stands-laid ws (suc d) i (one o a) h l r =
-    (omega arith, rw (h .0) (stands-laid ws d (i + 1) a (h .2) (omega arith) (omega arith), h .1 ∙ sym (stands-end ws (i + 1) a (h .2))))
+    let x = stands-laid ws d (i + 1) a (h .2) (omega arith) (omega arith) in
+    (omega arith, rw (h .0) (x, h .1 ∙ sym (stands-end ws (i + 1) a (h .2))))
 stands-laid ws (suc d) i (two o a b) h l r =
-    let m = i + 1 + weight a in
-    (omega arith,
-    rw (h .0)
-    (stands-laid ws d (i + 1) a (h .2) (omega arith) (omega arith), stands-laid ws d m b (h .3) (omega arith) (omega arith),
-    sym (stands-end ws (i + 1) a (h .2)), h .1 ∙ sym (stands-end ws m b (h .3))))
+    let m = i + 1 + weight a in (
+      omega arith,
+      rw (h .0) (
+        stands-laid ws d (i + 1) a (h .2) (omega arith) (omega arith),
+        stands-laid ws d m b (h .3) (omega arith) (omega arith),
+        sym (stands-end ws (i + 1) a (h .2)),
+        h .1 ∙ sym (stands-end ws m b (h .3)),
+      ),
+    )
 
 -- node n has the tree t, at most d deep, and its end
 pub record Planted (d : ℕ) (ws : List ℕ) (n : ℕ) (t : Tree) : Type 0 where
@@ -140,9 +172,14 @@ pub record Planted (d : ℕ) (ws : List ℕ) (n : ℕ) (t : Tree) : Type 0 where
   pub tree : treeFrom d ws n ≡ t
   pub ends : endAt ws n ≡ n + weight t
 
-pub stands-planted : (ws : List ℕ) (d n : ℕ) (t : Tree) → Stands ws n t → depth t ≤ d → 4 * (n + weight t) ≤ length ws → Planted d ws n t
+pub stands-planted : (ws : List ℕ) (d n : ℕ) (t : Tree) → Stands ws n t → depth t ≤ d → 4 * (n + weight t) ≤ length ws →
+    Planted d ws n t
 stands-planted ws d n t h l r =
     record { laid = stands-laid ws d n t h l r; tree = stands-tree ws d n t h l; ends = stands-end ws n t h }
+
+pub planted-tree : (ws : List ℕ) (n : ℕ) (t : Tree) → Planted 64 ws n t → tree ws n ≡ t
+unfolding tree
+planted-tree ws n t p = p .tree
 
 pub layout-laid : (ws : List ℕ) (d n : ℕ) (t : Tree) → SizedTree t → depth t ≤ d → 4 * (n + weight t) ≤ length ws →
     Planted d (sets ws (4 * n) (layout n t)) n t
@@ -158,8 +195,8 @@ pub stores-keep : (ws vs : List ℕ) (lo hi at : ℕ) → 4 * hi ≤ at → Keep
 stores-keep ws vs lo hi at h k a b = sets-keep-before vs ws at k (omega arith)
 
 -- a tree stays where it is planted while its nodes are kept
-pub planted-stays : (ws ws′ : List ℕ) (d n : ℕ) (t : Tree) → length ws ≤ length ws′ → Keeps ws ws′ n (n + weight t) → Planted d ws n t →
-    Planted d ws′ n t
+pub planted-stays : (ws ws′ : List ℕ) (d n : ℕ) (t : Tree) → length ws ≤ length ws′ → Keeps ws ws′ n (n + weight t) →
+    Planted d ws n t → Planted d ws′ n t
 planted-stays ws ws′ d n t l s p =
     let e = p .ends in
     let k : Keeps ws ws′ n (endAt ws n) = rw e s in
@@ -170,6 +207,7 @@ planted-stays ws ws′ d n t l s p =
       ends = end-frame ws ws′ n (endAt ws n) n k (omega arith) x ∙ e;
     }
 
-pub planted-later : (ws vs : List ℕ) (d n at : ℕ) (t : Tree) → 4 * (n + weight t) ≤ at → Planted d ws n t → Planted d (sets ws at vs) n t
+pub planted-later : (ws vs : List ℕ) (d n at : ℕ) (t : Tree) → 4 * (n + weight t) ≤ at → Planted d ws n t →
+    Planted d (sets ws at vs) n t
 planted-later ws vs d n at t h p =
     planted-stays ws (sets ws at vs) d n t (omega (arith, length-sets ws at vs)) (stores-keep ws vs n (n + weight t) at h) p

@@ -1,11 +1,11 @@
 -- Laws of a run of stores: what it puts, what it keeps, and one run after another. Assumes nothing.
 use mathlib.Core.Path.{_≡_, refl, sym, ap, _∙_}
 use mathlib.Core.List.{List, [], _∷_, _++_}
-use Prim.Native.Nat.{ℕ, zero, suc, _+_, _*_, _<_, _≤_}
+use Prim.Native.Nat.{ℕ, zero, suc, _+_, _<_, _≤_}
 use native.Mathlib.Omega.{arith}
 use native.Mathlib.Nat.{add-zero}
 use lib.ListN.{length, getD, set, length-set, length-append, List·getD-append}
-use lib.Seq.{sets, getD-set-same, getD-set-other, getD-append-add}
+use lib.Seq.{sets, getD-set-same, getD-set-other, getD-append-add, set-comm}
 
 -- ws has vs from position i on
 abbrev pub Has : (ws : List ℕ) (i : ℕ) (vs : List ℕ) → Type 0
@@ -44,3 +44,17 @@ sets-have (v ∷ vs) ws i l (suc k) h =
 pub sets-append : (us vs ws : List ℕ) (i j : ℕ) → i + length us ≡ j → sets (sets ws i us) j vs ≡ sets ws i (us ++ vs)
 sets-append [] vs ws i j h = ap (λ (k : ℕ). sets ws k vs) (sym h ∙ add-zero i)
 sets-append (u ∷ us) vs ws i j h = sets-append us vs (set ws i u) (suc i) j (omega arith)
+
+-- a store before a run of stores may come first
+set-passes : (vs ws : List ℕ) (i j x : ℕ) → i < j → set (sets ws j vs) i x ≡ sets (set ws i x) j vs
+set-passes [] ws i j x h = refl
+set-passes (v ∷ vs) ws i j x h =
+    set-passes vs (set ws j v) i (suc j) x (omega arith)
+    ∙ ap (λ (l : List ℕ). sets l (suc j) vs) (set-comm ws j i v x (λ e. omega arith))
+
+-- a run of stores that is made later, right before another
+pub sets-prepend : (us vs ws : List ℕ) (i j : ℕ) → i + length us ≡ j → sets (sets ws j vs) i us ≡ sets ws i (us ++ vs)
+sets-prepend [] vs ws i j h = ap (λ (k : ℕ). sets ws k vs) (sym h ∙ add-zero i)
+sets-prepend (u ∷ us) vs ws i j h =
+    ap (λ (l : List ℕ). sets l (suc i) us) (set-passes vs ws i j u (omega arith))
+    ∙ sets-prepend us vs (set ws i u) (suc i) j (omega arith)
