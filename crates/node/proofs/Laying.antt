@@ -16,7 +16,8 @@ use Rattle.node.specs.declared.Node.{Node}
 use Rattle.node.specs.declared.Node.the-variants.{Const, Var, Unary as UnaryNode, Binary as BinaryNode}
 use Rattle.node.specs.Nodes.{nodeWords, nodeOf, nodeAt, endAt, treeFrom, tree, Laid, layout}
 use Rattle.node.specs.Sized.{SizedNode, SizedTree}
-use Rattle.node.proofs.Stores.{Has, has-left, has-right, sets-have, sets-keep-before, sets-append, sets-prepend}
+use Rattle.words.proofs.Laws.{getD-sets-below, sets-after, sets-before}
+use Rattle.node.proofs.Stores.{Has, has-left, has-right, sets-have}
 use Rattle.node.proofs.Nodes.{Keeps, laid-end, laid-frame, from-frame, end-frame}
 
 pub weight-positive : (t : Tree) → 0 < weight t
@@ -52,7 +53,7 @@ pub layout-one : (ws : List ℕ) (n : ℕ) (o : One) (a : Tree) →
     ≡ sets ws (4 * n) (layout n (one o a))
 unfolding layout
 layout-one ws n o a =
-    sets-prepend (nodeWords (UnaryNode o) (n + 1 + weight a)) (layout (n + 1) a) ws (4 * n) (4 * (n + 1)) (omega arith)
+    sets-before (nodeWords (UnaryNode o) (n + 1 + weight a)) (layout (n + 1) a) ws (4 * n) (4 * (n + 1)) (omega arith)
 
 pub layout-two : (ws : List ℕ) (n : ℕ) (o : Two) (l r : Tree) →
     sets (sets (sets ws (4 * (n + 1)) (layout (n + 1) l)) (4 * (n + 1 + weight l)) (layout (n + 1 + weight l) r)) (4 * n)
@@ -63,8 +64,8 @@ layout-two ws n o l r =
     let m = n + 1 + weight l in
     let root = nodeWords (BinaryNode o m) (m + weight r) in
     ap (λ (x : List ℕ). sets x (4 * n) root)
-    (sets-append (layout (n + 1) l) (layout m r) ws (4 * (n + 1)) (4 * m) (omega (arith, layout-length (n + 1) l)))
-    ∙ sets-prepend root (layout (n + 1) l ++ layout m r) ws (4 * n) (4 * (n + 1)) (omega arith)
+    (sets-after (layout (n + 1) l) (layout m r) ws (4 * (n + 1)) (4 * m) (omega (arith, layout-length (n + 1) l)))
+    ∙ sets-before root (layout (n + 1) l ++ layout m r) ws (4 * n) (4 * (n + 1)) (omega arith)
 
 -- ---- the words of one node
 
@@ -192,7 +193,7 @@ layout-laid ws d n t s l r =
 
 -- stores after the nodes up to hi keep them
 pub stores-keep : (ws vs : List ℕ) (lo hi at : ℕ) → 4 * hi ≤ at → Keeps ws (sets ws at vs) lo hi
-stores-keep ws vs lo hi at h k a b = sets-keep-before vs ws at k (omega arith)
+stores-keep ws vs lo hi at h k a b = getD-sets-below vs ws at k 0 (omega arith)
 
 -- a tree stays where it is planted while its nodes are kept
 pub planted-stays : (ws ws′ : List ℕ) (d n : ℕ) (t : Tree) → length ws ≤ length ws′ → Keeps ws ws′ n (n + weight t) →
