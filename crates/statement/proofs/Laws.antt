@@ -8,7 +8,8 @@ use lib.ListN.{length, getD, set}
 use lib.Seq.{sets, length-sets}
 use Rattle.symbol.specs.declared.Loc.{Loc}
 use Rattle.definitions.specs.Statement.{Statement}
-use Rattle.node.proofs.Stores.{sets-have, sets-keep-before}
+use Rattle.node.proofs.Stores.{sets-have}
+use Rattle.words.proofs.Laws.{getD-sets-below}
 use Rattle.statement.specs.declared.Row.{Row}
 use Rattle.statement.specs.declared.Row.the-variants.{Given, Copied, Kept, Passed, Made}
 use Rattle.statement.specs.Rows.{rowWords, rowOf, rowAt, rowsFrom, rowStatement, statementsOf}
@@ -50,7 +51,7 @@ rows-frame rs rs′ c s k (suc count) h =
 -- the rows before the one put are kept
 pub rows-kept : (rs : List ℕ) (c : ℕ) (r : Row) → rowsFrom (sets rs (3 * c) (rowWords r)) 0 c ≡ rowsFrom rs 0 c
 rows-kept rs c r =
-    rows-frame rs (sets rs (3 * c) (rowWords r)) c (λ j h. sets-keep-before (rowWords r) rs (3 * c) j h) 0 c (omega arith)
+    rows-frame rs (sets rs (3 * c) (rowWords r)) c (λ j h. getD-sets-below (rowWords r) rs (3 * c) j 0 h) 0 c (omega arith)
 
 -- one row more
 pub rows-more : (rs : List ℕ) (k count : ℕ) → rowsFrom rs k (count + 1) ≡ rowsFrom rs k count ++ (rowAt rs (k + count) ∷ [])
