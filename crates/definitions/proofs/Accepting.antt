@@ -1,12 +1,12 @@
 -- From an accepted answer to what its list does.
-use Prim.Native.Nat.{ℕ, suc, _+_, _*_, _-_, _≤_, _<_}
+use Prim.Native.Nat.{ℕ, _+_, _*_, _-_, _≤_, _<_}
 use mathlib.Core.Path.{_≡_, refl, ap, sym, _∙_}
 use mathlib.Core.Logic.{_≢_}
 use mathlib.Core.Bool.{Bool, true, false, cond, _||_, false≢true}
 use mathlib.Core.List.{List, [], _∷_, _++_}
 use native.Mathlib.Omega.{arith}
 use native.Mathlib.Nat.{mul-le-mul-left, mul-suc}
-use lib.ListN.{length, take, replicate}
+use lib.ListN.{length}
 use lib.Seq.{take-at}
 use lib.Dec.{ltb}
 use borrow.Author.Tests.{ltb-false}
@@ -17,25 +17,21 @@ use Rattle.operation.specs.declared.Two.{Two}
 use Rattle.operation.specs.declared.Two.the-variants.{Binary, Choice, Function2}
 use Rattle.definitions.specs.Tree.{Tree, constant, variable, one, two, ershov}
 use Rattle.definitions.specs.Statement.{Statement, assign, call, target}
-use Rattle.definitions.specs.Sheet.{Read, got, Bytes, sheetOf, scratchCount, fused, step, firstTemporary}
+use Rattle.definitions.specs.Sheet.{got, Bytes, sheetOf, scratchCount, fused, step, firstTemporary}
 use Rattle.definitions.specs.Trim.{tooWide}
-use Rattle.definitions.specs.Operations.{Op, listWords}
-use Rattle.definitions.specs.Emit.{statementOps, emitAll}
+use Rattle.definitions.specs.Operations.{listWords}
+use Rattle.definitions.specs.Emit.{statementOps}
 use Rattle.definitions.specs.Answer.{Answer, refusal, acceptance, answerRead, answer, temporary, trimmed, temporaryCount, operations}
-use Rattle.definitions.specs.Meaning.{Meaning, Memory, Commuting, value, performAll, assigned, isIn, orderly}
+use Rattle.definitions.specs.Meaning.{Meaning, Commuting, value, performAll, assigned, isIn}
 use Rattle.definitions.specs.Run.{State, run}
 use Rattle.definitions.specs.Claims.{EachAssignment, AllWriteOnly, Below, listOf}
 use Rattle.definitions.proofs.Comparing.{or-neither}
 use Rattle.definitions.proofs.Rewriting.{by-test}
 use Rattle.definitions.proofs.Memory.{same-place-equal, same-place-self, Looks, Reads, reads-more, Touch}
-use Rattle.definitions.proofs.Settling.{Old}
-use Rattle.definitions.proofs.Fitting.{Fits, AllFit}
+use Rattle.definitions.proofs.Fitting.{AllFit}
 use Rattle.definitions.proofs.Reading.{SheetPlace, SheetStatements, Header, sheet-statements, sheet-header}
-use Rattle.definitions.proofs.Orderly.{sheet-place-old}
-use Rattle.definitions.proofs.TrimFits.{fitting-assignments-suffice}
-use Rattle.definitions.proofs.TrimKeeps.{touch-keeps}
 use Rattle.definitions.proofs.Words.{SmallPlace, list-words-length, assignment-evaluates, words-perform}
-use Rattle.definitions.proofs.Compiling.{trimmed-fits, trimmed-touches, trimmed-agrees}
+use Rattle.definitions.proofs.Compiling.{trimmed-fits, trimmed-touches}
 
 -- an answer with number 0 has passed every check
 pub record Accepted (file : List ℕ) (sheet : List Statement) (room : ℕ) (a : Answer) : Type 0 where
@@ -97,7 +93,7 @@ or-either : (x y : Bool) → (x || y) ≡ true → x ≡ false → y ≡ true
 or-either true y e h = absurd (false≢true (sym h))
 or-either false y e h = e
 
-assigned-is-sheet-place : (first : ℕ) (ss : List Statement) → SheetStatements first ss → (p : Loc) → isIn (assigned ss) p ≡ true →
+pub assigned-is-sheet-place : (first : ℕ) (ss : List Statement) → SheetStatements first ss → (p : Loc) → isIn (assigned ss) p ≡ true →
     SheetPlace first p
 unfolding SheetStatements assigned isIn
 assigned-is-sheet-place first [] h p e = absurd (false≢true e)
@@ -120,7 +116,7 @@ reads-any (variable p) = tt
 reads-any (one o a) = reads-any a
 reads-any (two o l r) = (looks-any o, reads-any l, reads-any r)
 
-unassigned-touches : (ss : List Statement) (p : Loc) → isIn (assigned ss) p ≡ false → Touch (λ q. p ≢ q) (λ q. Unit {0}) ss
+pub unassigned-touches : (ss : List Statement) (p : Loc) → isIn (assigned ss) p ≡ false → Touch (λ q. p ≢ q) (λ q. Unit {0}) ss
 unfolding assigned isIn Touch
 unassigned-touches [] p e = tt
 unassigned-touches (s ∷ ss) p e =
@@ -139,7 +135,7 @@ module _ (file : List ℕ) (work room : ℕ) (bytes : Bytes file) (accepts : ans
   header : Header file
   header = sheet-header file sheet nodes read
 
-  places : SheetStatements (firstTemporary file) sheet
+  pub places : SheetStatements (firstTemporary file) sheet
   places = sheet-statements file bytes sheet nodes read
 
   list-is : listOf (answer file work room) ≡ listWords (operations file sheet)
@@ -147,13 +143,13 @@ module _ (file : List ℕ) (work room : ℕ) (bytes : Bytes file) (accepts : ans
       rw (accepted .answers)
       (take-at (listWords (operations file sheet)) _ (6 * length (operations file sheet)) (list-words-length (operations file sheet)))
 
-  small-places : Touch SmallPlace SmallPlace (trimmed file sheet .statements)
+  pub small-places : Touch SmallPlace SmallPlace (trimmed file sheet .statements)
   small-places =
       trimmed-touches file sheet nodes read bytes SmallPlace SmallPlace
       (sheet-touches SmallPlace (firstTemporary file) (sheet-place-small (firstTemporary file)) sheet places)
       (λ k h. let s = temporary-small file (temporaryCount file sheet) (header .step-low) (accepted .inRange) k h in (s, s))
 
-  each-evaluates : (ss : List Statement) → AllFit (scratchCount file) ss → Touch SmallPlace SmallPlace ss
+  pub each-evaluates : (ss : List Statement) → AllFit (scratchCount file) ss → Touch SmallPlace SmallPlace ss
       → (m : Meaning) → Commuting m → (z : State (m .Value))
       → EachAssignment
       (λ p t. let ops = statementOps (fused file) (assign p t) in
@@ -168,7 +164,7 @@ module _ (file : List ℕ) (work room : ℕ) (bytes : Bytes file) (accepts : ans
   )
   each-evaluates (call p q ∷ ss) f h m c z = (tt, each-evaluates ss (f .1) (h .2) m c z)
 
-  run-performs : (m : Meaning) → Commuting m → (z : State (m .Value)) →
+  pub run-performs : (m : Meaning) → Commuting m → (z : State (m .Value)) →
       run m (listOf (answer file work room)) z .memory ≡ performAll m (trimmed file sheet .statements) (z .memory)
   unfolding operations
   run-performs m c z =
@@ -177,39 +173,5 @@ module _ (file : List ℕ) (work room : ℕ) (bytes : Bytes file) (accepts : ans
       (trimmed-fits file sheet nodes read) small-places z)
 
   -- temporaries of the answer
-  temps-are : answer file work room .temps ≡ temporaryCount file sheet
+  pub temps-are : answer file work room .temps ≡ temporaryCount file sheet
   temps-are = ap (λ (a : Answer). a .temps) (accepted .answers)
-
-pub registers-are-enough : (file : List ℕ) (sheet : List Statement) (nodes : ℕ) → sheetOf file ≡ got sheet nodes
-    → EachAssignment (λ p t. ershov t ≤ scratchCount file) (trimmed file sheet .statements)
-registers-are-enough file sheet nodes read = fitting-assignments-suffice (scratchCount file) _ (trimmed-fits file sheet nodes read)
-
-pub assignments-work-out : (file : List ℕ) (work room : ℕ) → Bytes file → answer file work room .number ≡ 0
-    → (sheet : List Statement) (nodes : ℕ) → sheetOf file ≡ got sheet nodes
-    → (m : Meaning) → Commuting m → (z : State (m .Value))
-    → EachAssignment
-    (λ p t. let ops = statementOps (fused file) (assign p t) in
-    AllWriteOnly (Below (ershov t)) ops × (run m (listWords ops) z .registers (ershov t - 1) ≡ value m (z .memory) t))
-    (trimmed file sheet .statements)
-assignments-work-out file work room bytes e sheet nodes read m c z =
-    each-evaluates file work room bytes e sheet nodes read _ (trimmed-fits file sheet nodes read)
-    (small-places file work room bytes e sheet nodes read) m c z
-
-pub whole-list-works-out : (file : List ℕ) (work room : ℕ) → Bytes file → answer file work room .number ≡ 0
-    → (sheet : List Statement) (nodes : ℕ) → sheetOf file ≡ got sheet nodes → orderly [] sheet ≡ true
-    → (m : Meaning) → Commuting m → (z : State (m .Value)) (p : Loc)
-    → (isIn (assigned sheet) p ≡ true
-    → run m (listOf (answer file work room)) z .memory p ≡ performAll m sheet (z .memory) p)
-    × (isIn (assigned sheet) p ≡ false → ((n : ℕ) → n < answer file work room .temps → p ≢ temporary file n)
-    → run m (listOf (answer file work room)) z .memory p ≡ z .memory p)
-whole-list-works-out file work room bytes e sheet nodes read tidy m c z p = (
-  (λ h. ran ∙ trimmed-agrees file sheet nodes read bytes tidy m c (z .memory) p
-      (sheet-place-old file p (assigned-is-sheet-place (firstTemporary file) sheet (places file work room bytes e sheet nodes read) p h))),
-  (λ h apart. ran ∙ touch-keeps m (λ q. p ≢ q) (λ q. Unit {0}) _
-      (trimmed-touches file sheet nodes read bytes (λ q. p ≢ q) (λ q. Unit {0}) (unassigned-touches sheet p h)
-      (λ k l. (apart k (rw (temps-are file work room bytes e sheet nodes read) l), tt)))
-      (z .memory) p (λ q d. d)),
-)
-  where
-    ran : run m (listOf (answer file work room)) z .memory p ≡ performAll m (trimmed file sheet .statements) (z .memory) p
-    ran = ap (λ (μ : Memory (m .Value)). μ p) (run-performs file work room bytes e sheet nodes read m c z)
