@@ -1,26 +1,24 @@
 -- What holds of every sheet that passes the checks up to the statement bytes.
-use Prim.Native.Nat.{ℕ, zero, suc, _+_, _*_, _≤_, _<_}
-use mathlib.Core.Path.{_≡_, refl, sym}
+use Prim.Native.Nat.{ℕ, zero, suc, _+_, _≤_, _<_}
+use mathlib.Core.Path.{_≡_, refl}
 use mathlib.Core.Bool.{Bool, true, false, cond, _&&_, not}
 use mathlib.Core.List.{List, [], _∷_}
 use native.Mathlib.Omega.{arith}
-use lib.ListN.{length, getD, take, drop}
+use lib.ListN.{length, take, drop}
 use lib.Dec.{eqb, leb, ltb}
-use borrow.Author.Tests.{leb-true, leb-false, eqb-true}
+use borrow.Author.Tests.{leb-true, leb-false}
 use Rattle.symbol.specs.declared.Loc.{Loc}
 use Rattle.symbol.specs.declared.Loc.the-variants.{Stack, Mem, Param}
 use Rattle.symbol.specs.Place.{placeOf}
 use Rattle.operation.specs.Codes.{isUnary, isBinary}
 use Rattle.operation.specs.declared.One.{One}
-use Rattle.operation.specs.declared.One.the-variants.{Unary, Function1}
 use Rattle.operation.specs.declared.Two.{Two}
-use Rattle.operation.specs.declared.Two.the-variants.{Binary, Choice, Function2}
-use Rattle.definitions.specs.Tree.{Tree, constant, variable, one, two, weight}
-use Rattle.definitions.specs.Statement.{Statement, assign, call, target, source}
-use Rattle.definitions.specs.Sheet.{Read, got, bad, andThen, Bytes, byte, number16, scratchCount, step, statementCount, firstTemporary, fileFits, headerFits, Pair, pairs, pairsFit, part, upTo, isTemporary, placeAt, TreeReader, under1, under2, constantAt, variableAt, unaryAt, binaryAt, choiceAt, function1At, function2At, byTag, atTag, treeAt, statementAt, statementsAt, sheetOf}
+use Rattle.definitions.specs.Tree.{weight}
+use Rattle.definitions.specs.Statement.{Statement, assign, call}
+use Rattle.definitions.specs.Sheet.{Read, got, bad, andThen, Bytes, byte, number16, scratchCount, step, firstTemporary, fileFits, headerFits, Pair, pairs, pairsFit, part, isTemporary, placeAt, TreeReader, under1, under2, byTag, treeAt, statementAt, statementsAt, sheetOf}
 use Rattle.definitions.proofs.Settling.{AssignmentsOnly}
 use Rattle.definitions.proofs.Comparing.{and-both, not-fails}
-use Rattle.definitions.proofs.Memory.{Looks, Reads, Touch}
+use Rattle.definitions.proofs.Memory.{Looks, Reads}
 
 -- P holds of what was read, if it was not refused
 pub data Ok {A : Type 0} (P : A → Type 0) : Read A → Type 0 where
