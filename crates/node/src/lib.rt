@@ -17,7 +17,7 @@ pub enum Node {
 }
 
 // An operator's tag, and its code, function or place.
-fn one_tag(o: One) -> u32
+pub fn one_tag(o: One) -> u32
     ensures { λ r. ⌜ r ≡ oneTag o ⌝ }
 {
     match o {
@@ -26,7 +26,7 @@ fn one_tag(o: One) -> u32
     }
 }
 
-fn one_word(o: One) -> u32
+pub fn one_word(o: One) -> u32
     ensures { λ r. ⌜ r ≡ oneWord o ⌝ }
 {
     match o {
@@ -35,7 +35,7 @@ fn one_word(o: One) -> u32
     }
 }
 
-fn two_tag(o: Two) -> u32
+pub fn two_tag(o: Two) -> u32
     ensures { λ r. ⌜ r ≡ twoTag o ⌝ }
 {
     match o {
@@ -45,7 +45,7 @@ fn two_tag(o: Two) -> u32
     }
 }
 
-fn two_word(o: Two) -> u32
+pub fn two_word(o: Two) -> u32
     ensures { λ r. ⌜ r ≡ twoWord o ⌝ }
 {
     match o {
