@@ -183,7 +183,7 @@ header-ranges file e =
     }
 
 module _ {A : Type 0} {H : Type 0} where
-  ok-known : (r : Read A) → H → Ok (λ a. H) r
+  pub ok-known : (r : Read A) → H → Ok (λ a. H) r
   ok-known (got a n) h = accepted h
   ok-known (bad k) h = refused
 
