@@ -1,0 +1,166 @@
+-- What a meeting does to the marks. Assumes nothing.
+use mathlib.Core.Path.{_≡_, refl, sym, ap, _∙_}
+use mathlib.Core.Bool.{Bool, true, false, cond, _||_}
+use mathlib.Core.List.{List, [], _∷_, _++_, map, map-append}
+use Prim.Native.Nat.{ℕ, suc, _+_, _-_, _<_, _≤_}
+use native.Mathlib.Omega.{arith}
+use lib.ListN.{length, set, take, length-set, length-append}
+use lib.Seq.{take-suc-set}
+use lib.Dec.{eqb, leb}
+use borrow.Author.Tests.{eqb-true, eqb-false, le-leb}
+use Rattle.definitions.specs.Tree.{weight}
+use Rattle.definitions.specs.Same.{same, among}
+use Rattle.definitions.specs.Eliminate.{Walk, note}
+use Rattle.node.specs.Nodes.{tree, Table}
+use Rattle.numbers.specs.Filled.{at}
+use Rattle.classes.specs.Classes.{Classed}
+use Rattle.share.specs.Sharing.{markOf, Low, Fits, Held, Moves}
+use Rattle.share.proofs.Texts.{among-mark, mark-new, mark-kept, note-light, note-first, note-second, note-later}
+use Rattle.share.proofs.Unused.{at-set, unused-first, unused-second}
+
+pub low : {ws cs : List ℕ} {n : ℕ} → Table ws n → Classed ws cs 0 n → Low cs n
+low t q = record { few = t .few; below = λ i l. q .below i (omega arith) l }
+
+module _ {ws cs : List ℕ} {n : ℕ} (t : Table ws n) (q : Classed ws cs 0 n) (i : ℕ) (l : i < n) where
+  tells : (j : ℕ) → j < n → same (tree ws i) (tree ws j) ≡ eqb (at cs i) (at cs j)
+  tells j h = sym (q .tells i j (omega arith) l (omega arith) h)
+
+  class-below : at cs i < n
+  class-below = q .below i (omega arith) l
+
+  module _ {ms tx : List ℕ} {k : ℕ} (f : Fits n ms tx k) where
+    room : at cs i < length ms
+    room = omega (arith, class-below, t .few, f .marks)
+
+    -- a class without a temporary leaves room for one
+    pub room-more : at ms (at cs i) ≡ 1 → k < n
+    room-more z = omega (arith, f .room, unused-second n ms (at cs i) class-below room k z)
+
+    stay : ((w : Walk) → Held ws cs n ms tx k w → note (tree ws i) w ≡ w) → Moves ws cs n (note (tree ws i)) ms tx k ms tx k
+    stay e = record { fits = f; held = λ w h. rw (e w h) h }
+
+    pub light : weight (tree ws i) < 5 → Moves ws cs n (note (tree ws i)) ms tx k ms tx k
+    light w5 = stay (λ w h. note-light (tree ws i) w w5)
+
+    -- what the class's mark says of the tree
+    met-by : (w : Walk) → Held ws cs n ms tx k w → (b : Bool) → leb 1 (at ms (at cs i)) ≡ b → among (w .met) (tree ws i) ≡ b
+    met-by w h b e = sym (h .met i l) ∙ e
+
+    given-by : (w : Walk) → Held ws cs n ms tx k w → (b : Bool) → leb 1 (at ms (at cs i) - 1) ≡ b →
+        among (w .texts) (tree ws i) ≡ b
+    given-by w h b e = among-mark (w .texts) (tree ws i) ∙ ap (leb 1) (sym (h .given i l)) ∙ e
+
+    -- nodes of one class have one mark
+    like : (j : ℕ) → eqb (at cs i) (at cs j) ≡ true → at ms (at cs j) ≡ at ms (at cs i)
+    like j e = ap (at ms) (sym (eqb-true (at cs i) (at cs j) e))
+
+    module _ (heavy : 5 ≤ weight (tree ws i)) where
+      pub later : (at ms (at cs i) ≡ 0 → ⊥) → (at ms (at cs i) ≡ 1 → ⊥) → Moves ws cs n (note (tree ws i)) ms tx k ms tx k
+      later a b =
+          stay
+          (λ w h. note-later (tree ws i) w heavy
+          (met-by w h true (le-leb 1 (at ms (at cs i)) (omega arith)))
+          (given-by w h true (le-leb 1 (at ms (at cs i) - 1) (omega arith))))
+
+      module _ (z : at ms (at cs i) ≡ 0) (w : Walk) (h : Held ws cs n ms tx k w) where
+        first-met : (j : ℕ) → j < n → leb 1 (at (set ms (at cs i) 1) (at cs j)) ≡ among (tree ws i ∷ w .met) (tree ws j)
+        unfolding among
+        first-met j lj = rw (at-set ms (at cs i) 1 (at cs j) room, tells j lj) (go (eqb (at cs i) (at cs j)))
+          where
+            go : (b : Bool) → leb 1 (cond b 1 (at ms (at cs j))) ≡ (b || among (w .met) (tree ws j))
+            go true = refl
+            go false = h .met j lj
+
+        first-given : (j : ℕ) → j < n → at (set ms (at cs i) 1) (at cs j) - 1 ≡ markOf (w .texts) (tree ws j)
+        first-given j lj = rw (at-set ms (at cs i) 1 (at cs j) room) (go (eqb (at cs i) (at cs j)) refl)
+          where
+            go : (b : Bool) → eqb (at cs i) (at cs j) ≡ b → cond b 1 (at ms (at cs j)) - 1 ≡ markOf (w .texts) (tree ws j)
+            go true e = omega (arith, like j e, h .given j lj)
+            go false e = h .given j lj
+
+        first-held : Held ws cs n (set ms (at cs i) 1) tx k (note (tree ws i) w)
+        first-held =
+            rw (note-first (tree ws i) w heavy (met-by w h false (ap (leb 1) z)))
+            record { met = first-met; given = first-given; count = h .count; inside = h .inside; trees = h .trees }
+
+      pub first : at ms (at cs i) ≡ 0 → Moves ws cs n (note (tree ws i)) ms tx k (set ms (at cs i) 1) tx k
+      first z =
+          record {
+            fits =
+                record {
+                  marks = length-set ms (at cs i) 1 ∙ f .marks;
+                  places = f .places;
+                  room = omega (arith, f .room, unused-first n ms (at cs i) class-below room z);
+                };
+            held = first-held z;
+          }
+
+      module _ (z : at ms (at cs i) ≡ 1) (w : Walk) (h : Held ws cs n ms tx k w) where
+        second-met : (j : ℕ) → j < n → leb 1 (at (set ms (at cs i) (k + 2)) (at cs j)) ≡ among (w .met) (tree ws j)
+        second-met j lj = rw (at-set ms (at cs i) (k + 2) (at cs j) room) (go (eqb (at cs i) (at cs j)) refl)
+          where
+            go : (b : Bool) → eqb (at cs i) (at cs j) ≡ b → leb 1 (cond b (k + 2) (at ms (at cs j))) ≡ among (w .met) (tree ws j)
+            go true e = le-leb 1 (k + 2) (omega arith) ∙ sym (ap (leb 1) (like j e ∙ z)) ∙ h .met j lj
+            go false e = h .met j lj
+
+        second-given : (j : ℕ) → j < n →
+            at (set ms (at cs i) (k + 2)) (at cs j) - 1 ≡ markOf (w .texts ++ (tree ws i ∷ [])) (tree ws j)
+        second-given j lj = rw (at-set ms (at cs i) (k + 2) (at cs j) room) (go (eqb (at cs i) (at cs j)) refl)
+          where
+            go : (b : Bool) → eqb (at cs i) (at cs j) ≡ b →
+                cond b (k + 2) (at ms (at cs j)) - 1 ≡ markOf (w .texts ++ (tree ws i ∷ [])) (tree ws j)
+            go true e =
+                let none : markOf (w .texts) (tree ws j) ≡ 0 = omega (arith, like j e, h .given j lj) in
+                omega (arith, mark-new (w .texts) (tree ws i) (tree ws j) none (tells j lj ∙ e), h .count)
+            go false e = h .given j lj ∙ sym (mark-kept (w .texts) (tree ws i) (tree ws j) (tells j lj ∙ e))
+
+        place : k < length tx
+        place = omega (arith, f .places, room-more z, t .few)
+
+        second-inside : (s : ℕ) → s < k + 1 → at (set tx k i) s < n
+        second-inside s b = rw (at-set tx k i s place) (go (eqb k s) refl)
+          where
+            go : (b : Bool) → eqb k s ≡ b → cond b i (at tx s) < n
+            go true e = l
+            go false e = let d = eqb-false k s e in h .inside s (omega arith)
+
+        second-trees : map (tree ws) (take (k + 1) (set tx k i)) ≡ w .texts ++ (tree ws i ∷ [])
+        second-trees =
+            let e : k + 1 ≡ suc k = omega arith in
+            rw (e, take-suc-set tx k i place, map-append (tree ws) (take k tx) (i ∷ []), h .trees)
+
+        second-held : Held ws cs n (set ms (at cs i) (k + 2)) (set tx k i) (k + 1) (note (tree ws i) w)
+        second-held =
+            rw (note-second (tree ws i) w heavy (met-by w h true (ap (leb 1) z))
+            (given-by w h false (ap (λ (m : ℕ). leb 1 (m - 1)) z)))
+            record {
+              met = second-met;
+              given = second-given;
+              count = omega (arith, h .count, length-append (w .texts) (tree ws i ∷ []));
+              inside = second-inside;
+              trees = second-trees;
+            }
+
+      pub second : at ms (at cs i) ≡ 1 →
+          Moves ws cs n (note (tree ws i)) ms tx k (set ms (at cs i) (k + 2)) (set tx k i) (k + 1)
+      second z =
+          record {
+            fits =
+                record {
+                  marks = length-set ms (at cs i) (k + 2) ∙ f .marks;
+                  places = length-set tx k i ∙ f .places;
+                  room = omega (arith, f .room, unused-second n ms (at cs i) class-below room k z);
+                };
+            held = second-held z;
+          }
+
+      -- the class as the code has it
+      module _ (c : ℕ) (e : c ≡ at cs i) where
+        pub first-at : at ms c ≡ 0 → Moves ws cs n (note (tree ws i)) ms tx k (set ms c 1) tx k
+        first-at z = rw e (first (rw e at z))
+
+        pub second-at : at ms c ≡ 1 → Moves ws cs n (note (tree ws i)) ms tx k (set ms c (k + 2)) (set tx k i) (k + 1)
+        second-at z = rw e (second (rw e at z))
+
+        pub later-at : (at ms c ≡ 0 → ⊥) → (at ms c ≡ 1 → ⊥) → Moves ws cs n (note (tree ws i)) ms tx k ms tx k
+        later-at a b = later (rw e at a) (rw e at b)
