@@ -1,0 +1,4 @@
+pub mod Numbers
+pub mod Planning
+pub mod Evaluating
+pub mod Temporaries
