@@ -1,16 +1,16 @@
 -- The cases of a tree's reading, and what each leaves in the words. Assumes nothing.
 use Prim.Native.Nat.{ℕ, zero, suc, _+_, _-_, _*_, _<_, _≤_}
 use native.Mathlib.Omega.{arith}
-use mathlib.Core.Bool.{true, false, _&&_}
-use mathlib.Core.List.{List, [], _∷_, _++_}
+use mathlib.Core.Bool.{false, _&&_}
+use mathlib.Core.List.{List, _++_}
 use mathlib.Core.Path.{_≡_, refl, sym, ap, ap₂, _∙_}
-use lib.ListN.{length, length-append}
+use lib.ListN.{length}
 use lib.Dec.{leb}
 use lib.Seq.{sets}
 use borrow.Author.Tests.{lt-ltb, le-ltb, lt-leb, le-leb}
 use Rattle.operation.specs.declared.One.{One}
 use Rattle.operation.specs.declared.Two.{Two}
-use Rattle.definitions.specs.Tree.{Tree, constant, variable, one, two, weight}
+use Rattle.definitions.specs.Tree.{Tree, one, two, weight}
 use Rattle.definitions.specs.Sheet.{Read, got, bad, andThen, byte, TreeReader, under1, under2, treeAt}
 use Rattle.node.specs.declared.Node.the-variants.{Unary, Binary}
 use Rattle.node.specs.Nodes.{nodeWords, layout}
@@ -18,18 +18,10 @@ use Rattle.words.proofs.Laws.{sets-before, sets-after}
 use Rattle.places.specs.declared.Head.{Head}
 use Rattle.places.specs.Heads.{headAt, headTree}
 use Rattle.places.proofs.Heads.{tag-head}
+use Rattle.node.proofs.Laying.{layout-length}
 use Rattle.trees.specs.declared.ReadTree.{ReadTree}
 use Rattle.trees.specs.declared.ReadTree.the-variants.{Tree as TreeTo, Refused}
 use Rattle.trees.specs.Reads.{TreeRead}
-
-pub layout-length : (n : ℕ) (t : Tree) → length (layout n t) ≡ 4 * weight t
-unfolding layout weight
-layout-length n (constant k) = refl
-layout-length n (variable p) = refl
-layout-length n (one o a) = omega (arith, layout-length (n + 1) a)
-layout-length n (two o l r) =
-    omega
-    (arith, length-append (layout (n + 1) l) (layout (n + 1 + weight l) r), layout-length (n + 1) l, layout-length (n + 1 + weight l) r)
 
 -- an answer is not both
 pub not-both : {A : Type 0} {t : ReadTree} {end m k : ℕ} → t ≡ TreeTo end m → t ≡ Refused k → A

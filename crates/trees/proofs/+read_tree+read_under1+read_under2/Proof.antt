@@ -72,111 +72,133 @@ read-tree-returns t c =
 read-tree-returns-2 : (t : ℕ) → read-tree-lts.Need-returns-2 (read-tree-claims t) (read-tree-at t) read-tree.Post
 read-tree-returns-2 t c =
     let s = c .before .before .before .before .before in
-    rw (tree-zero (s .args .first) (s .args .s .now) (s .args .at) (s .args .n) (s .args .left) (c .before .before .if1 .left) (c .if2 .taken))
+    rw
+    (tree-zero (s .args .first) (s .args .s .now) (s .args .at) (s .args .n) (s .args .left) (c .before .before .if1 .left)
+    (c .if2 .taken))
 
 read-tree-returns-3 : (t : ℕ) → read-tree-lts.Need-returns-3 (read-tree-claims t) (read-tree-at t) read-tree.Post
 read-tree-returns-3 t c =
     let s = c .before .before .before .before .before .before in
-    rw (tree-past (s .args .first) (s .args .s .now) (s .args .at) (s .args .n) (s .args .left) (c .before .before .before .if1 .left)
+    rw
+    (tree-past (s .args .first) (s .args .s .now) (s .args .at) (s .args .n) (s .args .left) (c .before .before .before .if1 .left)
     (c .before .if2 .left) (c .if3 .taken))
 
 read-tree-returns-4 : (t : ℕ) → read-tree-lts.Need-returns-4 (read-tree-claims t) (read-tree-at t) read-tree.Post
 read-tree-returns-4 t c =
     let s = c .before .before .before .before .before .before .before in
-    rw (tree-deep (s .args .first) (s .args .s .now) (s .args .at) (s .args .n) (s .args .left) (c .before .before .before .before .if1 .left)
-    (c .before .before .if2 .left) (c .before .if3 .left) (c .if4 .taken))
+    rw
+    (tree-deep (s .args .first) (s .args .s .now) (s .args .at) (s .args .n) (s .args .left)
+    (c .before .before .before .before .if1 .left) (c .before .before .if2 .left) (c .before .if3 .left) (c .if4 .taken))
 
 read-tree-returns-5 : (t : ℕ) → read-tree-lts.Need-returns-5 (read-tree-claims t) (read-tree-at t) read-tree.Post
 read-tree-returns-5 t c =
     let s = c .before .before .before .before .before .before .before .before in
-    rw (tree-many (s .args .first) (s .args .s .now) (s .args .at) (s .args .n) (s .args .left) (c .before .before .before .before .before .if1 .left)
-    (c .before .before .before .if2 .left) (c .before .before .if3 .left) (omega (arith, c .if5 .taken)))
+    rw
+    (tree-many (s .args .first) (s .args .s .now) (s .args .at) (s .args .n) (s .args .left)
+    (c .before .before .before .before .before .if1 .left) (c .before .before .before .if2 .left) (c .before .before .if3 .left)
+    (omega (arith, c .if5 .taken)))
 
 read-tree-returns-6 : (t : ℕ) → read-tree-lts.Need-returns-6 (read-tree-claims t) (read-tree-at t) read-tree.Post
 unfolding weight layout
 read-tree-returns-6 t c =
-    let s = c .before .before .before .before .before .before .before .before .before .before .before .before .before .before .before .before
-    in
-    rw (tree-head (s .args .first) (s .args .s .now) (s .args .at) (s .args .n) (s .args .left) (c .before .before .before .before .before .before .before .before .before .before .before .before .before .if1 .left)
-    (c .before .before .before .before .before .before .before .before .before .before .before .if2 .left) (c .before .before .before .before .before .before .before .before .before .before .if3 .left)
-    (c .before .before .before .before .before .before .before .before .before .if4 .left) (c .before .before .before .before .before .before .before .before .if5 .left)
-    (c .before .before .before .before .before .before .before .read-head .ensures) (c .before .before .before .before .before .h .given .1))
-    (refl, c .before .before .pack .ensures)
+    let s = c .before .before .before .before .before .before .before .before .before .before .before .before .before .before .before .before in
+    rw
+    (tree-head (s .args .first) (s .args .s .now) (s .args .at) (s .args .n) (s .args .left)
+    (c .before .before .before .before .before .before .before .before .before .before .before .before .before .if1 .left)
+    (c .before .before .before .before .before .before .before .before .before .before .before .if2 .left)
+    (c .before .before .before .before .before .before .before .before .before .before .if3 .left)
+    (c .before .before .before .before .before .before .before .before .before .if4 .left)
+    (c .before .before .before .before .before .before .before .before .if5 .left)
+    (c .before .before .before .before .before .before .before .read-head .ensures)
+    (c .before .before .before .before .before .h .given .1)) (refl, c .before .before .pack .ensures)
 
 read-tree-returns-7 : (t : ℕ) → read-tree-lts.Need-returns-7 (read-tree-claims t) (read-tree-at t) read-tree.Post
 unfolding weight layout
 read-tree-returns-7 t c =
-    let s = c .before .before .before .before .before .before .before .before .before .before .before .before .before .before .before .before
-    in
-    rw (tree-head (s .args .first) (s .args .s .now) (s .args .at) (s .args .n) (s .args .left) (c .before .before .before .before .before .before .before .before .before .before .before .before .before .if1 .left)
-    (c .before .before .before .before .before .before .before .before .before .before .before .if2 .left) (c .before .before .before .before .before .before .before .before .before .before .if3 .left)
-    (c .before .before .before .before .before .before .before .before .before .if4 .left) (c .before .before .before .before .before .before .before .before .if5 .left)
-    (c .before .before .before .before .before .before .before .read-head .ensures) (c .before .before .before .before .before .h2 .given .1))
-    (refl, c .before .before .pack2 .ensures)
+    let s = c .before .before .before .before .before .before .before .before .before .before .before .before .before .before .before .before in
+    rw
+    (tree-head (s .args .first) (s .args .s .now) (s .args .at) (s .args .n) (s .args .left)
+    (c .before .before .before .before .before .before .before .before .before .before .before .before .before .if1 .left)
+    (c .before .before .before .before .before .before .before .before .before .before .before .if2 .left)
+    (c .before .before .before .before .before .before .before .before .before .before .if3 .left)
+    (c .before .before .before .before .before .before .before .before .before .if4 .left)
+    (c .before .before .before .before .before .before .before .before .if5 .left)
+    (c .before .before .before .before .before .before .before .read-head .ensures)
+    (c .before .before .before .before .before .h2 .given .1)) (refl, c .before .before .pack2 .ensures)
 
 read-tree-returns-8 : (t : ℕ) → read-tree-lts.Need-returns-8 (read-tree-claims t) (read-tree-at t) read-tree.Post
 read-tree-returns-8 t c =
-    let s = c .before .before .before .before .before .before .before .before .before .before .before .before .before .before .before .before
-    in
-    rw (tree-head (s .args .first) (s .args .s .now) (s .args .at) (s .args .n) (s .args .left) (c .before .before .before .before .before .before .before .before .before .before .before .before .before .if1 .left)
-    (c .before .before .before .before .before .before .before .before .before .before .before .if2 .left) (c .before .before .before .before .before .before .before .before .before .before .if3 .left)
-    (c .before .before .before .before .before .before .before .before .before .if4 .left) (c .before .before .before .before .before .before .before .before .if5 .left)
-    (c .before .before .before .before .before .before .before .read-head .ensures) (c .before .before .before .before .before .h3 .given .1))
-    (c .before .before .read-under1 .ensures)
+    let s = c .before .before .before .before .before .before .before .before .before .before .before .before .before .before .before .before in
+    rw
+    (tree-head (s .args .first) (s .args .s .now) (s .args .at) (s .args .n) (s .args .left)
+    (c .before .before .before .before .before .before .before .before .before .before .before .before .before .if1 .left)
+    (c .before .before .before .before .before .before .before .before .before .before .before .if2 .left)
+    (c .before .before .before .before .before .before .before .before .before .before .if3 .left)
+    (c .before .before .before .before .before .before .before .before .before .if4 .left)
+    (c .before .before .before .before .before .before .before .before .if5 .left)
+    (c .before .before .before .before .before .before .before .read-head .ensures)
+    (c .before .before .before .before .before .h3 .given .1)) (c .before .before .read-under1 .ensures)
 
 read-tree-returns-9 : (t : ℕ) → read-tree-lts.Need-returns-9 (read-tree-claims t) (read-tree-at t) read-tree.Post
 read-tree-returns-9 t c =
-    let s = c .before .before .before .before .before .before .before .before .before .before .before .before .before .before .before .before
-    in
-    rw (tree-head (s .args .first) (s .args .s .now) (s .args .at) (s .args .n) (s .args .left) (c .before .before .before .before .before .before .before .before .before .before .before .before .before .if1 .left)
-    (c .before .before .before .before .before .before .before .before .before .before .before .if2 .left) (c .before .before .before .before .before .before .before .before .before .before .if3 .left)
-    (c .before .before .before .before .before .before .before .before .before .if4 .left) (c .before .before .before .before .before .before .before .before .if5 .left)
-    (c .before .before .before .before .before .before .before .read-head .ensures) (c .before .before .before .before .before .h4 .given .1))
-    (c .before .before .read-under2 .ensures)
+    let s = c .before .before .before .before .before .before .before .before .before .before .before .before .before .before .before .before in
+    rw
+    (tree-head (s .args .first) (s .args .s .now) (s .args .at) (s .args .n) (s .args .left)
+    (c .before .before .before .before .before .before .before .before .before .before .before .before .before .if1 .left)
+    (c .before .before .before .before .before .before .before .before .before .before .before .if2 .left)
+    (c .before .before .before .before .before .before .before .before .before .before .if3 .left)
+    (c .before .before .before .before .before .before .before .before .before .if4 .left)
+    (c .before .before .before .before .before .before .before .before .if5 .left)
+    (c .before .before .before .before .before .before .before .read-head .ensures)
+    (c .before .before .before .before .before .h4 .given .1)) (c .before .before .read-under2 .ensures)
 
 read-tree-returns-10 : (t : ℕ) → read-tree-lts.Need-returns-10 (read-tree-claims t) (read-tree-at t) read-tree.Post
 read-tree-returns-10 t c =
     let s = c .before .before .before .before .before .before .before .before .before .before .before .before in
-    rw (tree-head (s .args .first) (s .args .s .now) (s .args .at) (s .args .n) (s .args .left) (c .before .before .before .before .before .before .before .before .before .if1 .left)
-    (c .before .before .before .before .before .before .before .if2 .left) (c .before .before .before .before .before .before .if3 .left)
-    (c .before .before .before .before .before .if4 .left) (c .before .before .before .before .if5 .left) (c .before .before .before .read-head .ensures)
-    (c .before .h5 .given .1))
+    rw
+    (tree-head (s .args .first) (s .args .s .now) (s .args .at) (s .args .n) (s .args .left)
+    (c .before .before .before .before .before .before .before .before .before .if1 .left)
+    (c .before .before .before .before .before .before .before .if2 .left)
+    (c .before .before .before .before .before .before .if3 .left) (c .before .before .before .before .before .if4 .left)
+    (c .before .before .before .before .if5 .left) (c .before .before .before .read-head .ensures) (c .before .h5 .given .1))
 
 read-under1-returns : (t : ℕ) → read-under1-lts.Need-returns (read-under1-claims t) (read-under1-at t) read-under1.Post
 read-under1-returns t c =
     let s = c .before .before .before .before .before .before .before .before .before .before .before .before .before in
-    under1-got (treeAt (s .args .first) (s .args .left) (s .args .s .now)) (s .args .o) (s .args .at) (s .args .n) (s .args .ws .now)
-    _ _ (c .before .before .before .before .before .before .before .before .before .read-tree .ensures) (c .before .before .before .before .before .t .given .1)
-    (c .before .before .pack .ensures)
+    under1-got (treeAt (s .args .first) (s .args .left) (s .args .s .now)) (s .args .o) (s .args .at) (s .args .n)
+    (s .args .ws .now) _ _ (c .before .before .before .before .before .before .before .before .before .read-tree .ensures)
+    (c .before .before .before .before .before .t .given .1) (c .before .before .pack .ensures)
 
 read-under1-returns-2 : (t : ℕ) → read-under1-lts.Need-returns-2 (read-under1-claims t) (read-under1-at t) read-under1.Post
 read-under1-returns-2 t c =
     let s = c .before .before .before .before .before .before .before .before .before in
-    under1-bad (treeAt (s .args .first) (s .args .left) (s .args .s .now)) (s .args .o) (s .args .at) (s .args .n) (s .args .ws .now)
-    _ _ (c .before .before .before .before .before .read-tree .ensures) (c .before .t2 .given .1)
+    under1-bad (treeAt (s .args .first) (s .args .left) (s .args .s .now)) (s .args .o) (s .args .at) (s .args .n)
+    (s .args .ws .now) _ _ (c .before .before .before .before .before .read-tree .ensures) (c .before .t2 .given .1)
 
 read-under2-returns : (t : ℕ) → read-under2-lts.Need-returns (read-under2-claims t) (read-under2-at t) read-under2.Post
 read-under2-returns t c =
-    let s = c .before .before .before .before .before .before .before .before .before .before .before .before .before .before .before .before .before .before .before .before
-    in
-    under2-got (treeAt (s .args .first) (s .args .left) (s .args .s .now)) (s .args .o) (s .args .at) (s .args .n) (s .args .ws .now)
-    _ _ (c .before .before .before .before .before .before .before .before .before .before .before .before .before .before .before .before .read-tree .ensures)
-    (c .before .before .before .before .before .before .before .before .before .before .before .before .l .given .1) _ _ (c .before .before .before .before .before .before .before .before .before .read-tree2 .ensures)
+    let s = c .before .before .before .before .before .before .before .before .before .before .before .before .before .before .before .before .before .before .before .before in
+    under2-got (treeAt (s .args .first) (s .args .left) (s .args .s .now)) (s .args .o) (s .args .at) (s .args .n)
+    (s .args .ws .now) _ _
+    (c .before .before .before .before .before .before .before .before .before .before .before .before .before .before .before .before .read-tree .ensures)
+    (c .before .before .before .before .before .before .before .before .before .before .before .before .l .given .1) _ _
+    (c .before .before .before .before .before .before .before .before .before .read-tree2 .ensures)
     (c .before .before .before .before .before .t .given .1) (c .before .before .pack .ensures)
 
 read-under2-returns-2 : (t : ℕ) → read-under2-lts.Need-returns-2 (read-under2-claims t) (read-under2-at t) read-under2.Post
 read-under2-returns-2 t c =
-    let s = c .before .before .before .before .before .before .before .before .before .before .before .before .before .before .before .before
-    in
-    under2-bad-right (treeAt (s .args .first) (s .args .left) (s .args .s .now)) (s .args .o) (s .args .at) (s .args .n) (s .args .ws .now)
-    _ _ (c .before .before .before .before .before .before .before .before .before .before .before .before .read-tree .ensures) (c .before .before .before .before .before .before .before .before .l .given .1)
-    _ _ (c .before .before .before .before .before .read-tree2 .ensures) (c .before .t2 .given .1)
+    let s = c .before .before .before .before .before .before .before .before .before .before .before .before .before .before .before .before in
+    under2-bad-right (treeAt (s .args .first) (s .args .left) (s .args .s .now)) (s .args .o) (s .args .at) (s .args .n)
+    (s .args .ws .now) _ _
+    (c .before .before .before .before .before .before .before .before .before .before .before .before .read-tree .ensures)
+    (c .before .before .before .before .before .before .before .before .l .given .1) _ _
+    (c .before .before .before .before .before .read-tree2 .ensures) (c .before .t2 .given .1)
 
 read-under2-returns-3 : (t : ℕ) → read-under2-lts.Need-returns-3 (read-under2-claims t) (read-under2-at t) read-under2.Post
 read-under2-returns-3 t c =
     let s = c .before .before .before .before .before .before .before .before .before in
-    under2-bad-left (treeAt (s .args .first) (s .args .left) (s .args .s .now)) (s .args .o) (s .args .at) (s .args .n) (s .args .ws .now)
-    _ _ (c .before .before .before .before .before .read-tree .ensures) (c .before .l2 .given .1)
+    under2-bad-left (treeAt (s .args .first) (s .args .left) (s .args .s .now)) (s .args .o) (s .args .at) (s .args .n)
+    (s .args .ws .now) _ _ (c .before .before .before .before .before .read-tree .ensures) (c .before .l2 .given .1)
 
 pub +read-tree+read-under1+read-under2-spec : {M : Type 1} → statement M
 +read-tree+read-under1+read-under2-spec =
