@@ -45,6 +45,14 @@ Fits n k sh (Made t root) = ⊥
 abbrev pub AllFit : (n k : ℕ) (sh rs : List ℕ) (c : ℕ) → Type 0
 AllFit n k sh rs c = (j : ℕ) → j < c → Fits n k sh (rowAt rs j)
 
+-- the root of a sheet's statement is in the sheet
+abbrev pub Rooted : (ss : List ℕ) (count : ℕ) → Row → Type 0
+Rooted ss count (Given place root) = (k : ℕ) × (k < count) × (getD ss (2 * k + 1) 0 ≡ root)
+Rooted ss count (Copied place t) = Unit {0}
+Rooted ss count (Kept t root) = Unit {0}
+Rooted ss count (Passed t u) = Unit {0}
+Rooted ss count (Made t root) = Unit {0}
+
 -- x is the root of a row
 abbrev pub Owns : Row → ℕ → Type 0
 Owns (Given place root) x = root ≡ x
@@ -66,6 +74,7 @@ pub record Eliminated (ws sh ss rs : List ℕ) (count c n : ℕ) (texts : List T
   pub whole : length rs ≡ 10752
   pub room : c ≤ count + length texts
   pub fits : AllFit n (length texts) sh rs c
+  pub rooted : (j : ℕ) → j < c → Rooted ss count (rowAt rs j)
   pub apart : (i j x : ℕ) → i < j → j < c → Owns (rowAt rs i) x → Owns (rowAt rs j) x → ⊥
   pub rows : (temporary : ℕ → Loc) →
       statementsOf temporary ws sh (rowsFrom rs 0 c) ≡ eliminate texts temporary [] (sheetFrom ws ss 0 count)
