@@ -11,24 +11,30 @@ use Rattle.symbol.specs.declared.Loc.{Loc}
 use Rattle.symbol.specs.declared.Loc.the-variants.{Stack, Mem, Param}
 use Rattle.symbol.specs.Place.{indexOf, placeWord, wordPlace}
 use Rattle.symbol.proofs.Laws.{place-word-back}
-use Rattle.definitions.specs.Tree.{weight}
+use Rattle.definitions.specs.Tree.{Tree, weight}
 use Rattle.definitions.specs.Statement.{Statement, assign, call, source}
 use Rattle.definitions.specs.Sheet.{got, Bytes, Pair, statementCount, firstTemporary, fileFits, headerFits, pairsFit, pairsFrom, pairs, statementAt, statementsAt, part, sheetOf}
 use Rattle.definitions.proofs.Reading.{Ok, ok-cond, ok-then, ok-got, ok-known, accepted, refused, SheetPlace, SheetStatements, sheet-statements}
-use Rattle.node.specs.Nodes.{tree, Table, layout, layoutAll, roots, weights}
+use Rattle.node.specs.Nodes.{endAt, tree, Table, layout, layoutAll, roots, weights}
 use Rattle.node.proofs.Stores.{Has, has-right, sets-have}
-use Rattle.node.proofs.Nodes.{equal-or}
+use Rattle.node.proofs.Nodes.{below-or, equal-or, nested, end-weight}
 use Rattle.node.proofs.Laying.{weight-positive}
 use Rattle.node.proofs.Forest.{forest-table, forest-trees}
 use Rattle.node.proofs.Sizing.{sheet-sized}
 use Rattle.statement.specs.Rows.{sheetFrom}
 use Rattle.reader.specs.Reads.{statementWords, statementRows}
 
+-- every tree that begins before node i ends there or before it
+abbrev pub Closed : (ws : List ℕ) (i : ℕ) → Type 0
+Closed ws i = (z : ℕ) → z < i → endAt ws z ≤ i
+
 -- the words and rows hold the statements of a sheet of n nodes
 pub record Held (ws rows : List ℕ) (n count : ℕ) (ss : List Statement) : Type 0 where
   pub table : Table ws n
   pub statements : sheetFrom ws rows 0 count ≡ ss
   pub roots : (j : ℕ) → j < count → getD rows (2 * j + 1) 0 < n
+  pub order : (i j : ℕ) → i < j → j < count → getD rows (2 * i + 1) 0 < getD rows (2 * j + 1) 0
+  pub closed : (j : ℕ) → j < count → Closed ws (getD rows (2 * j + 1) 0)
 
 cons-head : {A : Type 0} {x y : A} {xs ys : List A} → x ∷ xs ≡ y ∷ ys → x ≡ y
 cons-head e = cc
@@ -95,6 +101,51 @@ rows-stand first ws rows hi j n (assign p t ∷ ss) h has e l =
     )
 rows-stand first ws rows hi j n (call p c ∷ ss) h has e l = absurd (h .0)
 
+-- the roots of rows that have the statements' words: they grow, and each closes what stands before it
+module _ (first : ℕ) (ws rows : List ℕ) (hi : ℕ) (table : Table ws hi) where
+  roots-from : (j n : ℕ) (ss : List Statement) → SheetStatements first ss → Has rows (2 * j) (statementRows n ss) →
+      (k : ℕ) → j ≤ k → k < j + length ss → n ≤ getD rows (2 * k + 1) 0
+  unfolding SheetStatements statementRows
+  roots-from j n [] h has k a b = absurd (omega arith)
+  roots-from j n (assign p t ∷ ss) h has k a b =
+      let at-root : getD rows (2 * j + 1) 0 ≡ n = has 1 (omega arith) in
+      equal-or k j (λ e. rw e (omega (arith, at-root)))
+      (λ d. let later = roots-from (j + 1) (n + weight t) ss (h .1)
+      (has-right rows (placeWord p ∷ n ∷ []) (statementRows (n + weight t) ss) (2 * j) (2 * (j + 1)) (omega arith) has)
+      k (omega (arith, d)) (omega arith) in omega (arith, later))
+  roots-from j n (call p c ∷ ss) h has k a b = absurd (h .0)
+
+  roots-grow : (j n : ℕ) (ss : List Statement) → SheetStatements first ss → Has rows (2 * j) (statementRows n ss) →
+      (i k : ℕ) → j ≤ i → i < k → k < j + length ss → getD rows (2 * i + 1) 0 < getD rows (2 * k + 1) 0
+  unfolding SheetStatements statementRows
+  roots-grow j n [] h has i k a b l = absurd (omega arith)
+  roots-grow j n (assign p t ∷ ss) h has i k a b l =
+      let at-root : getD rows (2 * j + 1) 0 ≡ n = has 1 (omega arith) in
+      let rest = has-right rows (placeWord p ∷ n ∷ []) (statementRows (n + weight t) ss) (2 * j) (2 * (j + 1)) (omega arith) has in
+      equal-or i j
+      (λ e. let later = roots-from (j + 1) (n + weight t) ss (h .1) rest k (omega (arith, e)) (omega arith) in
+      rw e (omega (arith, later, at-root, weight-positive t)))
+      (λ d. roots-grow (j + 1) (n + weight t) ss (h .1) rest i k (omega (arith, d)) b (omega arith))
+  roots-grow j n (call p c ∷ ss) h has i k a b l = absurd (h .0)
+
+  roots-close : (j n : ℕ) (ss : List Statement) → SheetStatements first ss → Has rows (2 * j) (statementRows n ss)
+      → map (tree ws) (roots n (map source ss)) ≡ map source ss → n + weights (map source ss) ≤ hi → Closed ws n
+      → (k : ℕ) → j ≤ k → k < j + length ss → Closed ws (getD rows (2 * k + 1) 0)
+  unfolding SheetStatements statementRows roots weights
+  roots-close j n [] h has e l c k a b = absurd (omega arith)
+  roots-close j n (assign p t ∷ ss) h has e l c k a b =
+      let at-root : getD rows (2 * j + 1) 0 ≡ n = has 1 (omega arith) in
+      let inside : n < hi = omega (arith, weight-positive t) in
+      let laid = table .laid n inside in
+      let ends : endAt ws n ≡ n + weight t = end-weight ws n laid ∙ ap (λ (u : Tree). n + weight u) (cons-head e) in
+      let next : Closed ws (n + weight t) =
+      λ z b. below-or z n (λ b. omega (arith, c z b)) (λ g. omega (arith, ends, nested ws 64 n z laid g (omega (arith, ends)))) in
+      equal-or k j (λ q. rw (q, at-root) c)
+      (λ d. roots-close (j + 1) (n + weight t) ss (h .1)
+      (has-right rows (placeWord p ∷ n ∷ []) (statementRows (n + weight t) ss) (2 * j) (2 * (j + 1)) (omega arith) has)
+      (cons-tail e) (omega arith) next k (omega (arith, d)) (omega arith))
+  roots-close j n (call p c ∷ ss) h has e l cl k a b = absurd (h .0)
+
 -- as many statements as the header counts
 pairs-length : (file : List ℕ) (at n : ℕ) → length (pairsFrom file at n) ≡ n
 unfolding pairsFrom
@@ -128,16 +179,21 @@ sheet-held file ws rows ss n bytes e room wide =
     let sized = sheet-sized file bytes ss n e in
     let count = sheet-length file ss n e in
     let few : n ≤ 1024 = sized .few (omega arith) in
-    let words = words-are (firstTemporary file) 0 ss places in
     let fits : 4 * weights (map source ss) ≤ length ws = omega (arith, sized .count, few) in
     let longs : 0 + length (statementRows 0 ss) ≤ length rows = omega (arith, rows-length (firstTemporary file) 0 ss places, count) in
-    let stands = rows-stand (firstTemporary file) (sets ws 0 (layoutAll 0 (map source ss))) (sets rows 0 (statementRows 0 ss)) n 0 0 ss places
-    (sets-have (statementRows 0 ss) rows 0 longs)
-    (forest-trees ws (map source ss) (sized .trees) fits) (omega (arith, sized .count)) in
-    let w : n ≡ weights (map source ss) = omega (arith, sized .count) in
-    rw (words, sym count)
+    let w : weights (map source ss) ≡ n = omega (arith, sized .count) in
+    let table : Table (sets ws 0 (layoutAll 0 (map source ss))) n =
+    rw w at (forest-table ws (map source ss) (sized .trees) fits (omega (arith, few))) in
+    let has : Has (sets rows 0 (statementRows 0 ss)) (2 * 0) (statementRows 0 ss) = sets-have (statementRows 0 ss) rows 0 longs in
+    let trees = forest-trees ws (map source ss) (sized .trees) fits in
+    let stands = rows-stand (firstTemporary file) _ _ n 0 0 ss places has trees (omega (arith, w)) in
+    rw (words-are (firstTemporary file) 0 ss places, sym count)
     (record {
-      table = rw w (forest-table ws (map source ss) (sized .trees) fits (omega (arith, w)));
+      table = table;
       statements = stands-statements _ _ n 0 ss stands;
       roots = λ j l. stands-roots _ _ n 0 ss stands j (omega arith) (omega arith);
+      order = λ i j a b. roots-grow (firstTemporary file) _ _ n table 0 0 ss places has i j (omega arith) a (omega arith);
+      closed = λ j b.
+          roots-close (firstTemporary file) _ _ n table 0 0 ss places has trees (omega (arith, w)) (λ z l. absurd (omega arith)) j
+          (omega arith) (omega arith);
     })
