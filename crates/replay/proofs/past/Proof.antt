@@ -1,0 +1,16 @@
+-- `replay::past` meets its contract: it stays within the vectors.
+use native.Mathlib.Omega.{arith}
+use borrow.Author.Needs.{needs}
+use Rattle.replay.proofs.past.Statement.{statement}
+use Rattle.replay.proofs.past.Tie as tie
+
+returns : tie.Need-returns
+returns c = omega (arith, c .before .has .ensures (c .if1 .taken))
+
+pub past-spec : {M : Type 1} → statement M
+past-spec =
+    tie.close
+    (tie.spec
+    (λ c κs. search needs) (λ c. search needs)
+    returns
+    (λ c. search needs))

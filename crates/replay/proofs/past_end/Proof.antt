@@ -1,0 +1,21 @@
+-- `replay::past_end` meets its contract: it stays within the vectors.
+use Prim.Native.Nat.{_≤_, _-_}
+use lib.ListN.{length}
+use borrow.Author.Needs.{needs}
+use Rattle.replay.proofs.past_end.Statement.{statement}
+use Rattle.replay.proofs.past_end.Tie as tie
+
+abbrev Inv-loop : tie.InvT-loop
+Inv-loop all at here₀ here = (at ≤ here) × (here ≤ length all)
+
+abbrev μ-loop : tie.MeasureT-loop
+μ-loop all at here₀ here = length all - here
+
+pub past-end-spec : {M : Type 1} → statement M
+past-end-spec =
+    tie.close
+    (tie.spec
+    Inv-loop
+    μ-loop
+    (λ c. search needs) (λ c κs. search needs) (λ c κs. search needs) (λ c. search needs)
+    (λ c. search needs) (λ c. search needs) (λ c. search needs))
