@@ -37,25 +37,48 @@ pub fn compile_bytes(bytes: &[u8]) -> Answer {
 /// The Rust's list; where it returns an error, how many operations it had emitted. With classes, calls are
 /// named by them.
 pub fn compile_sheet(sheet: &Sheet, classes: Option<Classes>) -> Result<Listing, usize> {
-    let config =
-        Config { sharing: sheet.sharing(), fused: sheet.fused(), scratch: sheet.scratch, df: None };
-    let mut builder = Builder::new(config.clone());
-    let mut nodes = Nodes { symbols: builder.symbol_table().clone(), classes };
-    for statement in &sheet.statements {
-        let place = nodes.variable(statement.place);
-        let tree = nodes.node(&statement.tree);
-        builder.block().add_assign(place, tree);
+    let mut run = Run::new(sheet, classes);
+    if !run.compile_mir() {
+        return Err(run.mir.code.records.len());
     }
-    // create_tmp takes a temporary's index from these two.
-    nodes.symbols.num_stack = sheet.first.into();
-    nodes.symbols.slot_size = sheet.step.into();
-    *builder.symbol_table() = nodes.symbols;
-    let mut mir = Mir::new(config);
-    builder.compile_mir(&mut mir).map_err(|_| mir.code.records.len())?;
     Ok(Listing {
-        operations: mir.code.records.iter().map(operation).collect(),
-        temporaries: builder.block().num_tmp as u32,
+        operations: run.mir.code.records.iter().map(operation).collect(),
+        temporaries: run.builder.block().num_tmp as u32,
     })
+}
+
+/// A sheet's nodes, made and handed to the Rust's builder, before `compile_mir`.
+pub struct Run {
+    builder: Builder,
+    mir: Mir,
+}
+
+impl Run {
+    pub fn new(sheet: &Sheet, classes: Option<Classes>) -> Run {
+        let config = Config {
+            sharing: sheet.sharing(),
+            fused: sheet.fused(),
+            scratch: sheet.scratch,
+            df: None,
+        };
+        let mut builder = Builder::new(config.clone());
+        let mut nodes = Nodes { symbols: builder.symbol_table().clone(), classes };
+        for statement in &sheet.statements {
+            let place = nodes.variable(statement.place);
+            let tree = nodes.node(&statement.tree);
+            builder.block().add_assign(place, tree);
+        }
+        // create_tmp takes a temporary's index from these two.
+        nodes.symbols.num_stack = sheet.first.into();
+        nodes.symbols.slot_size = sheet.step.into();
+        *builder.symbol_table() = nodes.symbols;
+        Run { builder, mir: Mir::new(config) }
+    }
+
+    /// The Rust's own function and nothing else; false where it returns an error.
+    pub fn compile_mir(&mut self) -> bool {
+        self.builder.compile_mir(&mut self.mir).is_ok()
+    }
 }
 
 /// Makes the Rust's nodes directly, without the builder's rewriting.

@@ -5,6 +5,7 @@ pub mod damage;
 pub mod differences;
 pub mod generate;
 pub mod grow;
+pub mod series;
 pub mod sheet;
 pub mod text;
 
