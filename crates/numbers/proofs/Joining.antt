@@ -1,17 +1,15 @@
--- Ershov numbers: how two sides join, how high they go, and one node more. Assumes nothing.
-use mathlib.Core.Path.{_≡_, refl, sym, ap, _∙_}
+-- Ershov numbers: how two sides join, and how high they go. Assumes nothing.
+use mathlib.Core.Path.{_≡_, refl}
 use mathlib.Core.List.{List}
 use Prim.Native.Nat.{ℕ, zero, suc, _+_, _<_, _≤_, compare, Ordering, Ordering·lt, Ordering·eq, Ordering·gt}
 use native.Mathlib.Omega.{arith}
-use lib.ListN.{length, set}
 use Rattle.definitions.specs.Tree.{Tree, join, joinBy, ershov}
 use Rattle.definitions.proofs.Comparing.{Compared, compared}
 use Rattle.node.specs.declared.Node.{Node}
 use Rattle.node.specs.declared.Node.the-variants.{Const, Var, Unary, Binary}
-use Rattle.node.specs.Nodes.{nodeAt, nodeTree, treeFrom, tree, Table}
-use Rattle.numbers.specs.Filled.{at, Sides, Filled, Low, nodeErshov}
-use Rattle.numbers.proofs.Tables.{Between, sides-more, tree-node, sides-between}
-use Rattle.numbers.proofs.Filling.{filled-more}
+use Rattle.node.specs.Nodes.{nodeAt, nodeTree, treeFrom, tree}
+use Rattle.numbers.specs.Filled.{Sides, nodeErshov}
+use Rattle.numbers.proofs.Filling.{Numbering}
 
 module _ (l r : ℕ) where
   pub join-same : l ≡ r → l + 1 ≡ join l r
@@ -63,7 +61,7 @@ pub ershov-low : (ws : List ℕ) (i : ℕ) → ershov (tree ws i) ≤ 65
 unfolding tree
 ershov-low ws i = from-low 64 ws i
 
-ershov-node : (f : ℕ → ℕ) (T : ℕ → Tree) (P : ℕ → Type 0) → ((a : ℕ) → P a → f a ≡ ershov (T a)) → (i : ℕ) (x : Node) → Sides P i x
+pub ershov-node : (f : ℕ → ℕ) (T : ℕ → Tree) (P : ℕ → Type 0) → ((a : ℕ) → P a → f a ≡ ershov (T a)) → (i : ℕ) (x : Node) → Sides P i x
     → nodeErshov f i x ≡ ershov (nodeTree T i x)
 unfolding ershov
 ershov-node f T P h i (Const k) s = refl
@@ -71,17 +69,6 @@ ershov-node f T P h i (Var p) s = refl
 ershov-node f T P h i (Unary o) s = h (i + 1) s
 ershov-node f T P h i (Binary o r) s = rw (h (i + 1) (s .0), h r (s .1))
 
-module _ (ws es : List ℕ) (i n : ℕ) (x : Node) (t : Table ws n) (l : i < n) (e : x ≡ nodeAt ws i)
-    (f : (j : ℕ) → i < j → j < n → at es j ≡ ershov (tree ws j)) where
-  pub sides-low : Sides (Low es) i x
-  sides-low =
-      rw e (sides-more (Between i n) (Low es)
-      (λ a b. record { inside = omega (arith, b .below, t .few); low = rw (f a (b .after) (b .below)) (ershov-low ws a) })
-      i (nodeAt ws i) (sides-between t i l))
-
-  pub ershov-more : (v : ℕ) → length es ≡ 1024 → v ≡ nodeErshov (at es) i x → Filled ershov ws (set es i v) i n
-  ershov-more v long q =
-      filled-more ershov ws es i n v (omega (arith, t .few))
-      (q ∙ ap (nodeErshov (at es) i) e
-      ∙ ershov-node (at es) (tree ws) (Between i n) (λ a b. f a (b .after) (b .below)) i (nodeAt ws i) (sides-between t i l)
-      ∙ sym (ap ershov (tree-node t i l))) f
+-- Ershov numbers from those of the sides
+abbrev pub ershov-numbering : Numbering
+ershov-numbering = record { number = ershov; over = nodeErshov; low = ershov-low; agrees = ershov-node }

@@ -1,3 +1,4 @@
 pub mod Tables
 pub mod Filling
 pub mod Joining
+pub mod Deepening

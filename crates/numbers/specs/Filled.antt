@@ -1,7 +1,7 @@
 -- Numbers of trees, kept by node number. Definitions only.
 use mathlib.Core.Path.{_≡_}
 use mathlib.Core.List.{List}
-use Prim.Native.Nat.{ℕ, _+_, _<_, _≤_}
+use Prim.Native.Nat.{ℕ, _+_, _<_, _≤_, max}
 use lib.ListN.{getD}
 use Rattle.definitions.specs.Tree.{Tree, join}
 use Rattle.node.specs.declared.Node.{Node}
@@ -28,6 +28,13 @@ nodeErshov f i (Const k) = 1
 nodeErshov f i (Var p) = 1
 nodeErshov f i (Unary o) = f (i + 1)
 nodeErshov f i (Binary o right) = join (f (i + 1)) (f right)
+
+-- a node's depth, from those of its sides
+abbrev pub nodeDepth : (ℕ → ℕ) → (i : ℕ) → Node → ℕ
+nodeDepth f i (Const k) = 1
+nodeDepth f i (Var p) = 1
+nodeDepth f i (Unary o) = f (i + 1) + 1
+nodeDepth f i (Binary o right) = max (f (i + 1)) (f right) + 1
 
 -- a side whose number is known, and low enough for one more
 pub record Low (xs : List ℕ) (a : ℕ) : Type 0 where

@@ -1,5 +1,6 @@
 -- `numbers::ershovs` meets its contract: the loop has filled in the numbers of all nodes from i on.
-use Rattle.numbers.proofs.Joining.{sides-low, ershov-more}
+use Rattle.numbers.proofs.Filling.{sides-low, number-more}
+use Rattle.numbers.proofs.Joining.{ershov-numbering}
 use native.Mathlib.Omega.{arith}
 use Prim.Native.Nat.{_≤_, _-_}
 use mathlib.Core.Path.{_≡_}
@@ -23,7 +24,7 @@ ershov-of-requires : tie.Need-ershov-of-requires Inv-loop μ-loop
 ershov-of-requires c κs =
     let s = c .before .before .before .before .before in
     let v = c .before .before .before .loop in
-    sides-low (s .args .ws .now) (v .es) (v .i - 1) (s .args .n) _ (s .pre .0) (omega arith) (c .before .unpack .ensures)
+    sides-low ershov-numbering (s .args .ws .now) (v .es) (v .i - 1) (s .args .n) _ (s .pre .0) (omega arith) (c .before .unpack .ensures)
     (λ j h l. v .inv .2 j (omega arith) l)
 
 loop-again : tie.Need-loop-again Inv-loop μ-loop
@@ -33,7 +34,7 @@ loop-again c =
     let node = c .before .before .unpack .ensures in (
       omega arith,
       simp length-set (v .inv .1),
-      ershov-more (s .args .ws .now) (v .es) (v .i - 1) (s .args .n) _ (s .pre .0) (omega arith) node
+      number-more ershov-numbering (s .args .ws .now) (v .es) (v .i - 1) (s .args .n) _ (s .pre .0) (omega arith) node
           (λ j h l. v .inv .2 j (omega arith) l) _ (v .inv .1) (c .ershov-of .ensures),
     )
 
