@@ -219,10 +219,10 @@ fn pair(random: &mut Random, bytes: &mut [u8]) {
     }
 }
 
-fn word(bytes: &[u8], at: usize) -> u16 {
+pub fn word(bytes: &[u8], at: usize) -> u16 {
     u16::from_le_bytes([bytes[at], bytes[at + 1]])
 }
 
-fn set_word(bytes: &mut [u8], at: usize, value: u16) {
+pub fn set_word(bytes: &mut [u8], at: usize, value: u16) {
     bytes[at..at + 2].copy_from_slice(&value.to_le_bytes());
 }

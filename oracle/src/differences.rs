@@ -6,20 +6,43 @@ use crate::compile::compile_sheet;
 use crate::sheet::{Sheet, Tree};
 use crate::text::{kind, Listing};
 
-const OUTPUT_WORDS: usize = 16_384;
+/// What the program lends; the work is also what check 1 asks for.
+pub const WORK_WORDS: usize = 16_384;
+pub const OUTPUT_WORDS: usize = 16_384;
 
-/// What document 01 asks for a file: the list, or the number of the refusal.
+/// What document 01 asks for a file at full lending: the list, or the number of the refusal.
 pub fn expected(bytes: &[u8]) -> Result<Listing, u8> {
+    let listed = listed(bytes);
+    at_lent(&listed, WORK_WORDS, OUTPUT_WORDS)?;
+    listed
+}
+
+/// What document 01 asks for a file by checks 2 to 9, which do not look at what was lent.
+pub fn listed(bytes: &[u8]) -> Result<Listing, u8> {
     let sheet = Sheet::read(bytes)?;
     let mut listing = compile_sheet(&sheet, Some(Classes::default())).map_err(|_| 8)?;
-    if sheet.first as u32 + sheet.step as u32 * listing.temporaries > 65_536 {
+    if past_last_index(&sheet, &listing) {
         return Err(9);
-    }
-    if 6 * listing.operations.len() > OUTPUT_WORDS {
-        return Err(10);
     }
     move_left_first(&mut listing);
     Ok(listing)
+}
+
+/// The same with the lent words looked at: check 1 comes before the others, check 10 after them.
+pub fn at_lent(listed: &Result<Listing, u8>, work: usize, output: usize) -> Result<&Listing, u8> {
+    if work < WORK_WORDS {
+        return Err(1);
+    }
+    match listed {
+        Err(number) => Err(*number),
+        Ok(listing) if output < 6 * listing.operations.len() => Err(10),
+        Ok(listing) => Ok(listing),
+    }
+}
+
+/// Check 9.
+pub fn past_last_index(sheet: &Sheet, listing: &Listing) -> bool {
+    sheet.first as u32 + sheet.step as u32 * listing.temporaries > 65_536
 }
 
 /// Numbers calls so that same trees, and no others, have one number (difference 1): the Rust keys a
@@ -54,7 +77,7 @@ pub fn commutes(tree: &Tree) -> bool {
 }
 
 /// Difference 2: the Rust's `move r1 ry`, `move r0 r1` before a call of two, exchanged.
-fn move_left_first(listing: &mut Listing) {
+pub fn move_left_first(listing: &mut Listing) {
     for at in 2..listing.operations.len() {
         let [right, left, call] = [at - 2, at - 1, at].map(|k| listing.operations[k]);
         let calls_two = call.kind == kind::CALL && call.s1 == 2;

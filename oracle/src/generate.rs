@@ -2,6 +2,7 @@
 
 use crate::damage;
 use crate::grow::{Grower, Palette};
+use crate::hostile;
 use crate::sheet::{Place, Sheet, Statement, Tree, FILE_LIMIT, MEMORY, NODE_LIMIT, PARAMETER};
 use crate::sheet::{STACK, STATEMENT_LIMIT};
 
@@ -15,6 +16,8 @@ pub enum Kind {
     Large,
     /// A valid sheet with one to four damages.
     Damaged,
+    /// Noise, broken tables, and sheets at or one past each limit.
+    Hostile,
 }
 
 impl Kind {
@@ -24,6 +27,7 @@ impl Kind {
             "small" => Some(Kind::Small),
             "large" => Some(Kind::Large),
             "damaged" => Some(Kind::Damaged),
+            "hostile" => Some(Kind::Hostile),
             _ => None,
         }
     }
@@ -34,6 +38,7 @@ pub fn generate(seed: u64, number: u64, kind: Kind) -> Vec<u8> {
     let mut random = Random::new(seed, number ^ (kind as u64) << 60);
     match kind {
         Kind::Damaged => damage::damaged(&mut random),
+        Kind::Hostile => hostile::hostile(&mut random),
         _ => {
             let sheet = valid(&mut random, kind);
             write(&mut random, &sheet, kind)

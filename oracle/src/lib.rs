@@ -3,8 +3,10 @@
 pub mod compile;
 pub mod damage;
 pub mod differences;
+pub mod extreme;
 pub mod generate;
 pub mod grow;
+pub mod hostile;
 pub mod series;
 pub mod sheet;
 pub mod text;

@@ -8,7 +8,7 @@ use oracle::differences::expected;
 use oracle::generate::{generate, Kind};
 
 const USAGE: &str = "usage: oracle compile | oracle expect
-       oracle generate SEED COUNT [valid|small|large|damaged]";
+       oracle generate SEED COUNT [valid|small|large|damaged|hostile]";
 
 fn main() -> ExitCode {
     let arguments: Vec<String> = std::env::args().skip(1).collect();

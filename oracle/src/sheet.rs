@@ -216,6 +216,11 @@ impl Tree {
         1 + self.sides().iter().map(|side| side.depth()).max().unwrap_or(0)
     }
 
+    pub fn calls_of_two(&self) -> usize {
+        let here = usize::from(matches!(self, Tree::Function2(..)));
+        here + self.sides().iter().map(|side| side.calls_of_two()).sum::<usize>()
+    }
+
     /// The node's own bytes, without those of its sides.
     pub fn write_head(&self, out: &mut Vec<u8>) {
         match self {
