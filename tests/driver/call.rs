@@ -2,24 +2,7 @@
 
 use oracle::text::Listing;
 
-#[repr(C)]
-#[derive(Clone, Copy, Debug, PartialEq, Eq)]
-pub struct Numbers {
-    pub number: u32,
-    pub ops: u32,
-    pub temps: u32,
-}
-
-extern "C" {
-    fn zubmanger_compile(
-        file: *const u8,
-        file_len: usize,
-        work: *mut u32,
-        work_len: usize,
-        out: *mut u32,
-        out_len: usize,
-    ) -> Numbers;
-}
+use crate::library::{compile, Numbers};
 
 /// The most words that are lent at a time: the longest list has fewer.
 pub const MOST: usize = 65_536;
@@ -58,10 +41,10 @@ impl Lent {
     }
 
     /// Makes so many words dirty, with their guards.
-    fn lend(&mut self, length: usize, dirt: u32) -> *mut u32 {
+    fn lend(&mut self, length: usize, dirt: u32) -> &mut [u32] {
         (self.length, self.dirt) = (length, dirt);
         self.words[..GUARD + length + GUARD].fill(dirt);
-        self.words[GUARD..].as_mut_ptr()
+        &mut self.words[GUARD..GUARD + length]
     }
 
     fn lent(&self) -> &[u32] {
@@ -91,12 +74,7 @@ impl Memory {
     pub fn call(&mut self, file: &[u8], work: usize, out: usize, dirt: u32) -> Numbers {
         self.file.clear();
         self.file.extend(file);
-        let work_words = self.work.lend(work, dirt);
-        let out_words = self.out.lend(out, dirt);
-        // Each pointer has as many words behind it as its length says, and none overlap.
-        unsafe {
-            zubmanger_compile(self.file.as_ptr(), self.file.len(), work_words, work, out_words, out)
-        }
+        compile(&self.file, self.work.lend(work, dirt), self.out.lend(out, dirt))
     }
 
     /// What the last call did wrong, if anything.

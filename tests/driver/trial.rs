@@ -7,9 +7,10 @@ use oracle::differences::{at_lent, listed};
 use oracle::generate::Random;
 use oracle::text::Listing;
 
-use crate::call::{Expected, Memory, Numbers};
+use crate::call::{Expected, Memory};
 use crate::class::{class, Class};
 use crate::lent::{Lending, FULL};
+use crate::library::Numbers;
 use crate::tally::Tally;
 
 /// Calls with other than full lending, for each sheet.

@@ -4,6 +4,7 @@ mod call;
 mod class;
 mod exhaustive;
 mod lent;
+mod library;
 mod tally;
 mod trial;
 

@@ -1,5 +1,7 @@
 //! The Rust's `compile_mir` and ours on the same sheets: nanoseconds a sheet, and how many times faster ours is.
 
+mod library;
+
 use std::hint::black_box;
 use std::process::ExitCode;
 use std::time::{Duration, Instant};
@@ -10,6 +12,8 @@ use oracle::generate::{generate, Kind};
 use oracle::series::{accepted, Set};
 use oracle::sheet::Sheet;
 
+use crate::library::compile;
+
 const WORDS: usize = 16_384;
 const SEED: u64 = 1;
 const COLLECTION: usize = 2_000;
@@ -19,45 +23,10 @@ const IN_A_SET: usize = 200;
 /// Each side is timed so often, in turns; the fastest turn counts, since others only add to a time.
 const TURNS: usize = 15;
 
-#[repr(C)]
-struct Numbers {
-    number: u32,
-    operations: u32,
-    temporaries: u32,
-}
-
-unsafe extern "C" {
-    fn zubmanger_compile(
-        file: *const u8,
-        file_len: usize,
-        work: *mut u32,
-        work_len: usize,
-        out: *mut u32,
-        out_len: usize,
-    ) -> Numbers;
-}
-
 /// The words lent to every call.
 struct Lent {
     work: Vec<u32>,
     out: Vec<u32>,
-}
-
-impl Lent {
-    fn compile(&mut self, file: &[u8]) -> Numbers {
-        let (work, out) = (&mut self.work, &mut self.out);
-        // The slices are apart and as long as said.
-        unsafe {
-            zubmanger_compile(
-                file.as_ptr(),
-                file.len(),
-                work.as_mut_ptr(),
-                work.len(),
-                out.as_mut_ptr(),
-                out.len(),
-            )
-        }
-    }
 }
 
 /// Nanoseconds a sheet.
@@ -111,7 +80,7 @@ fn rust_from_bytes(files: &[Vec<u8>]) -> Duration {
 fn ours(files: &[Vec<u8>], lent: &mut Lent) -> Duration {
     let start = Instant::now();
     for file in files {
-        black_box(lent.compile(black_box(file)).number);
+        black_box(compile(black_box(file), &mut lent.work, &mut lent.out));
     }
     start.elapsed()
 }

@@ -1,0 +1,28 @@
+//! The compiler's call for C and Rust.
+
+#[repr(C)]
+#[derive(Clone, Copy, Debug, PartialEq, Eq)]
+pub struct Numbers {
+    pub number: u32,
+    pub ops: u32,
+    pub temps: u32,
+}
+
+extern "C" {
+    fn zubmanger_compile(
+        file: *const u8,
+        file_len: usize,
+        work: *mut u32,
+        work_len: usize,
+        out: *mut u32,
+        out_len: usize,
+    ) -> Numbers;
+}
+
+pub fn compile(file: &[u8], work: &mut [u32], out: &mut [u32]) -> Numbers {
+    let (work_words, out_words) = (work.as_mut_ptr(), out.as_mut_ptr());
+    // Slices are as long as they say, and apart.
+    unsafe {
+        zubmanger_compile(file.as_ptr(), file.len(), work_words, work.len(), out_words, out.len())
+    }
+}
