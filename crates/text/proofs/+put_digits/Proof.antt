@@ -21,43 +21,25 @@ put-digits-at t = and 0 put-digits-kinds.ps (is 0 put-digits-kinds.ps μ-put-dig
 abbrev put-digits-below : ℕ → In 0 put-digits-kinds.ps
 put-digits-below t = and 0 put-digits-kinds.ps (falls 0 put-digits-kinds.ps _<_ μ-put-digits t) put-digits.Pre
 
-put-digits-returns : (t : ℕ) → put-digits-lts.Need-returns (
-  put-byte-reads.Asked,
-  put-byte-reads.Learnt,
-  put-digits-below t,
-  put-digits.Post,
-) (put-digits-at t) put-digits.Post
+abbrev put-digits-claims : ℕ → put-digits-lts.Claims
+put-digits-claims t = (put-byte-reads.Asked, put-byte-reads.Learnt, put-digits-below t, put-digits.Post)
+
+put-digits-returns : (t : ℕ) → put-digits-lts.Need-returns (put-digits-claims t) (put-digits-at t) put-digits.Post
 put-digits-returns t c = digits-none (c .before .args .n) (c .before .args .digits) (c .if1 .taken)
 
-put-digits-returns-2 : (t : ℕ) → put-digits-lts.Need-returns-2 (
-  put-byte-reads.Asked,
-  put-byte-reads.Learnt,
-  put-digits-below t,
-  put-digits.Post,
-) (put-digits-at t) put-digits.Post
+put-digits-returns-2 : (t : ℕ) → put-digits-lts.Need-returns-2 (put-digits-claims t) (put-digits-at t) put-digits.Post
 put-digits-returns-2 t c =
     let s = c .before .before .before in
     digits-last (s .args .n) (s .args .digits) (c .before .before .if1 .left) (c .before .if2 .taken) (c .put-byte .ensures)
 
-put-digits-returns-3 : (t : ℕ) → put-digits-lts.Need-returns-3 (
-  put-byte-reads.Asked,
-  put-byte-reads.Learnt,
-  put-digits-below t,
-  put-digits.Post,
-) (put-digits-at t) put-digits.Post
+put-digits-returns-3 : (t : ℕ) → put-digits-lts.Need-returns-3 (put-digits-claims t) (put-digits-at t) put-digits.Post
 put-digits-returns-3 t c =
     let s = c .before .before .before .before in
     digits-more (s .args .n) (s .args .digits) (c .before .before .before .if1 .left) (c .before .before .if2 .left)
     (c .before .put-digits .ensures) (c .put-byte2 .ensures)
 
 pub +put-digits-spec : {M : Type 1} → statement M
-+put-digits-spec = close μ-put-digits λ t. put-digits-lts.spec (
-  put-byte-reads.Asked,
-  put-byte-reads.Learnt,
-  put-digits-below t,
-  put-digits.Post,
-)
-    (put-digits-at t)
++put-digits-spec = close μ-put-digits λ t. put-digits-lts.spec (put-digits-claims t) (put-digits-at t)
     put-digits.Post
     (put-digits-returns t)
     (λ c. search needs) (λ c. search needs) (λ c κs. search needs)
