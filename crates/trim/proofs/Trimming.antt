@@ -19,7 +19,7 @@ use Rattle.definitions.specs.Tree.{Tree, variable, one, two, ershov, join}
 use Rattle.definitions.specs.Statement.{Call, call1, call2, callTree, Statement, assign, call}
 use Rattle.definitions.specs.Trim.{Trimmed, seek, calledBy, splitBy, over1, over2, trim}
 use Rattle.definitions.proofs.Comparing.{and-both}
-use Rattle.ershov.proofs.Laws.{join-few}
+use Rattle.ershov.proofs.Joining.{join-few}
 use Rattle.node.specs.declared.Node.{Node}
 use Rattle.node.specs.declared.Node.the-variants.{Const, Var, Unary as UnaryNode, Binary as BinaryNode}
 use Rattle.node.specs.Nodes.{nodeAt, endAt, nodeTree, Laid}
@@ -487,7 +487,7 @@ module _ (sharing : Bool) (scratch : ℕ) (ws ms rs : List ℕ) (n i r next coun
             trimmed = λ temporary f.
                 split-as false q w temporary f ∙ ap₂ (result next2) (both-read temporary) (sym (seen-two temporary ms2));
             number = λ temporary. k ∙ ap₂ join (number-left temporary) (y .number temporary) ∙ ap ershov (sym (seen-two temporary ms2));
-            few = rw k (join-few scratch er1 er2 (x .few) (y .few) w);
+            few = rw k (join-few er1 er2 scratch (x .few) (y .few) w);
           }
 
       -- both sides need every register

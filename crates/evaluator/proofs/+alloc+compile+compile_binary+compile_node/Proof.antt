@@ -3,7 +3,7 @@ use native.Mathlib.Omega.{arith}
 use borrow.Author.Needs.{needs}
 use Rattle.definitions.proofs.Evaluation.{join-covers}
 use Rattle.evaluator.specs.Config.{temporaryOf, span}
-use Rattle.evaluator.proofs.Numbers.{near-whole, near-one, near-two, near-seen}
+use Rattle.ershov.proofs.Numbers.{near-whole, near-one, near-two, near-seen}
 use Rattle.evaluator.proofs.Planning.{plan-found}
 use Rattle.evaluator.proofs.Evaluating.{ready-at, evaluated-constant, evaluated-variable, evaluated-marked, evaluated-unmarked, evaluated-one, evaluated-within, evaluated-registers, evaluated-right, evaluated-left, sides-same, sides-more, sides-less}
 use Prim.Native.Nat.{ℕ, _<_, _*_, _+_, _-_}
@@ -25,8 +25,8 @@ use Rattle.emitters.proofs.load_const.Reads as load-const-reads
 use Rattle.emitters.proofs.load_var.Reads as load-var-reads
 use Rattle.emitters.proofs.one.Reads as one-reads
 use Rattle.emitters.proofs.two.Reads as two-reads
-use Rattle.evaluator.proofs.calc_ershov.Reads as calc-ershov-reads
-use Rattle.evaluator.proofs.ershov.Reads as ershov-reads
+use Rattle.ershov.proofs.calc_ershov.Reads as calc-ershov-reads
+use Rattle.ershov.proofs.ershov.Reads as ershov-reads
 use Rattle.evaluator.proofs.fused_math.Reads as fused-math-reads
 use Rattle.evaluator.proofs.leaf_of.Reads as leaf-of-reads
 use Rattle.evaluator.proofs.plan_of.Reads as plan-of-reads

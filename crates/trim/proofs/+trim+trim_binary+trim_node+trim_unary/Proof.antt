@@ -24,7 +24,7 @@ use Rattle.node.proofs.unpack.Reads as unpack-reads
 use Rattle.trim.proofs.break_call.Reads as break-call-reads
 use Rattle.trim.proofs.full.Reads as full-reads
 use Rattle.trim.proofs.is_call.Reads as is-call-reads
-use Rattle.ershov.proofs.join.Reads as join-reads
+use Rattle.ershov.proofs.calc_ershov.Reads as calc-ershov-reads
 use Rattle.trim.proofs.split.Reads as split-reads
 use Rattle.trim.proofs.+trim+trim_binary+trim_node+trim_unary.{statement}
 use Rattle.trim.proofs.+trim+trim_binary+trim_node+trim_unary.Tie.{close}
@@ -91,8 +91,8 @@ trim-binary-returns : (t : ℕ) → trim-binary-lts.Need-returns (
   full-reads.Learnt,
   split-reads.Asked,
   split-reads.Learnt,
-  join-reads.Asked,
-  join-reads.Learnt,
+  calc-ershov-reads.Asked,
+  calc-ershov-reads.Learnt,
 ) (trim-binary-at t) trim-binary.Post
 trim-binary-returns t c =
     let s = c .before .before .before .before .before .before .before .before .before .before .before .before in trims-broken _ _ _ _ _ _ _ _ _ _ _ _ _ (s .pre .1 .0) (calling-two _ _ _ _ _ _ _ _ _ _ (s .pre .1 .0) _ (s .pre .1 .1) _ _ _ _ _ (c .before .before .before .before .before .before .before .before .trim .ensures) _ _ _ _ _ (c .before .before .before .before .before .trim2 .ensures) (sym (c .before .before .before .before .is-call .ensures) ∙ c .before .before .before .if1 .taken)) _ _ _ _ _ (c .break-call .ensures)
@@ -108,8 +108,8 @@ trim-binary-returns-2 : (t : ℕ) → trim-binary-lts.Need-returns-2 (
   full-reads.Learnt,
   split-reads.Asked,
   split-reads.Learnt,
-  join-reads.Asked,
-  join-reads.Learnt,
+  calc-ershov-reads.Asked,
+  calc-ershov-reads.Learnt,
 ) (trim-binary-at t) trim-binary.Post
 trim-binary-returns-2 t c =
     let s = c .before .before .before .before .before .before .before .before .before .before .before .before .before .before in trims-stored _ _ _ _ _ _ _ _ _ _ (s .pre .1 .0) _ (s .pre .1 .1) _ _ _ _ _ (c .before .before .before .before .before .before .before .before .before .before .trim .ensures) _ _ _ _ _ (c .before .before .before .before .before .before .before .trim2 .ensures) (sym (c .before .before .before .before .full .ensures) ∙ c .before .before .before .if2 .taken) _ _ _ _ _ _ (sym (c .before .before .before .before .before .before .is-call .ensures) ∙ c .before .before .before .before .before .if1 .left) (c .split .ensures)
@@ -125,11 +125,11 @@ trim-binary-returns-3 : (t : ℕ) → trim-binary-lts.Need-returns-3 (
   full-reads.Learnt,
   split-reads.Asked,
   split-reads.Learnt,
-  join-reads.Asked,
-  join-reads.Learnt,
+  calc-ershov-reads.Asked,
+  calc-ershov-reads.Learnt,
 ) (trim-binary-at t) trim-binary.Post
 trim-binary-returns-3 t c =
-    let s = c .before .before .before .before .before .before .before .before .before .before .before .before in trims-two _ _ _ _ _ _ _ _ _ _ (s .pre .1 .0) _ (s .pre .1 .1) _ _ _ _ _ (c .before .before .before .before .before .before .before .before .trim .ensures) _ _ _ _ _ (c .before .before .before .before .before .trim2 .ensures) _ (sym (c .before .before .before .before .is-call .ensures) ∙ c .before .before .before .if1 .left) (sym (c .before .before .full .ensures) ∙ c .before .if2 .left) (c .join .ensures)
+    let s = c .before .before .before .before .before .before .before .before .before .before .before .before in trims-two _ _ _ _ _ _ _ _ _ _ (s .pre .1 .0) _ (s .pre .1 .1) _ _ _ _ _ (c .before .before .before .before .before .before .before .before .trim .ensures) _ _ _ _ _ (c .before .before .before .before .before .trim2 .ensures) _ (sym (c .before .before .before .before .is-call .ensures) ∙ c .before .before .before .if1 .left) (sym (c .before .before .full .ensures) ∙ c .before .if2 .left) (c .calc-ershov .ensures)
 
 trim-node-returns : (t : ℕ) → trim-node-lts.Need-returns (
   unpack-reads.Asked,
@@ -219,8 +219,8 @@ pub +trim+trim-binary+trim-node+trim-unary-spec : {M : Type 1} → statement M
       full-reads.Learnt,
       split-reads.Asked,
       split-reads.Learnt,
-      join-reads.Asked,
-      join-reads.Learnt,
+      calc-ershov-reads.Asked,
+      calc-ershov-reads.Learnt,
     )
     (trim-binary-at t)
     trim-binary.Post

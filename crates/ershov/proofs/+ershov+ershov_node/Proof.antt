@@ -1,20 +1,20 @@
--- `evaluator::ershov` and `evaluator::ershov_node` meet their contracts: the depth that is left falls.
+-- `ershov::ershov` and `ershov::ershov_node` meet their contracts: the depth that is left falls.
 use native.Mathlib.Omega.{arith}
 use borrow.Author.Needs.{needs}
-use Rattle.evaluator.proofs.Numbers.{near-one, near-two, numbered-const, numbered-var, numbered-one, numbered-two, numbered-marked, numbered-unmarked}
+use Rattle.ershov.proofs.Numbers.{near-one, near-two, numbered-const, numbered-var, numbered-one, numbered-two, numbered-marked, numbered-unmarked}
 use Prim.Native.Nat.{ℕ, _<_, _*_, _+_}
 use borrow.Fn.Kinds.{In}
 use borrow.Fn.PlainCycle.{Measures, is, falls, and}
-use Rattle.evaluator.proofs.ershov.Reads as ershov
-use Rattle.evaluator.proofs.ershov.Kinds as ershov-kinds
-use Rattle.evaluator.proofs.+ershov+ershov_node.Lts-ershov as ershov-lts
-use Rattle.evaluator.proofs.ershov_node.Reads as ershov-node
-use Rattle.evaluator.proofs.ershov_node.Kinds as ershov-node-kinds
-use Rattle.evaluator.proofs.+ershov+ershov_node.Lts-ershov_node as ershov-node-lts
-use Rattle.evaluator.proofs.calc_ershov.Reads as calc-ershov-reads
+use Rattle.ershov.proofs.ershov.Reads as ershov
+use Rattle.ershov.proofs.ershov.Kinds as ershov-kinds
+use Rattle.ershov.proofs.+ershov+ershov_node.Lts-ershov as ershov-lts
+use Rattle.ershov.proofs.ershov_node.Reads as ershov-node
+use Rattle.ershov.proofs.ershov_node.Kinds as ershov-node-kinds
+use Rattle.ershov.proofs.+ershov+ershov_node.Lts-ershov_node as ershov-node-lts
+use Rattle.ershov.proofs.calc_ershov.Reads as calc-ershov-reads
 use Rattle.node.proofs.unpack.Reads as unpack-reads
-use Rattle.evaluator.proofs.+ershov+ershov_node.{statement}
-use Rattle.evaluator.proofs.+ershov+ershov_node.Tie.{close}
+use Rattle.ershov.proofs.+ershov+ershov_node.{statement}
+use Rattle.ershov.proofs.+ershov+ershov_node.Tie.{close}
 
 abbrev μ-ershov : Measures 2 ershov-kinds.ps ℕ
 μ-ershov κs a = 2 * a .1 .1 .1 .0 + 1
