@@ -70,136 +70,65 @@ abbrev trim-unary-below : ℕ → In 3 trim-unary-kinds.ps
 trim-unary-below t =
     and 3 trim-unary-kinds.ps (falls 3 trim-unary-kinds.ps _<_ μ-trim-unary t) trim-unary.Pre
 
-trim-returns :
-    (t : ℕ) → trim-lts.Need-returns (trim-node-below t, trim-node.Post) (trim-at t) trim.Post
+abbrev trim-binary-claims : ℕ → trim-binary-lts.Claims
+trim-binary-claims t = (trim-below t, trim.Post, is-call-reads.Asked, is-call-reads.Learnt, break-call-reads.Asked, break-call-reads.Learnt, full-reads.Asked, full-reads.Learnt, split-reads.Asked, split-reads.Learnt, calc-ershov-reads.Asked, calc-ershov-reads.Learnt)
+
+abbrev trim-node-claims : ℕ → trim-node-lts.Claims
+trim-node-claims t = (unpack-reads.Asked, unpack-reads.Learnt, trim-unary-below t, trim-unary.Post, trim-binary-below t, trim-binary.Post)
+
+abbrev trim-unary-claims : ℕ → trim-unary-lts.Claims
+trim-unary-claims t = (trim-below t, trim.Post, break-call-reads.Asked, break-call-reads.Learnt)
+
+abbrev trim-claims : ℕ → trim-lts.Claims
+trim-claims t = (trim-node-below t, trim-node.Post)
+
+trim-returns : (t : ℕ) → trim-lts.Need-returns (trim-claims t) (trim-at t) trim.Post
 trim-returns t c =
     trims-marked _ _ _ _ _ _ _ _ _ (c .before .before .before .pre .1) (c .if1 .taken)
 
-trim-returns-2 :
-    (t : ℕ) → trim-lts.Need-returns-2 (trim-node-below t, trim-node.Post) (trim-at t) trim.Post
+trim-returns-2 : (t : ℕ) → trim-lts.Need-returns-2 (trim-claims t) (trim-at t) trim.Post
 trim-returns-2 t c =
     trims-mark _ _ _ _ _ _ _ _ _ _ _ _ _ _ _ (c .before .before .before .before .before .before .pre .1) (c .before .before .before .if1 .left) (c .trim-node .ensures)
 
-trim-binary-returns : (t : ℕ) → trim-binary-lts.Need-returns (
-  trim-below t,
-  trim.Post,
-  is-call-reads.Asked,
-  is-call-reads.Learnt,
-  break-call-reads.Asked,
-  break-call-reads.Learnt,
-  full-reads.Asked,
-  full-reads.Learnt,
-  split-reads.Asked,
-  split-reads.Learnt,
-  calc-ershov-reads.Asked,
-  calc-ershov-reads.Learnt,
-) (trim-binary-at t) trim-binary.Post
+trim-binary-returns : (t : ℕ) → trim-binary-lts.Need-returns (trim-binary-claims t) (trim-binary-at t) trim-binary.Post
 trim-binary-returns t c =
     let s = c .before .before .before .before .before .before .before .before .before .before .before .before in trims-broken _ _ _ _ _ _ _ _ _ _ _ _ _ (s .pre .1 .0) (calling-two _ _ _ _ _ _ _ _ _ _ (s .pre .1 .0) _ (s .pre .1 .1) _ _ _ _ _ (c .before .before .before .before .before .before .before .before .trim .ensures) _ _ _ _ _ (c .before .before .before .before .before .trim2 .ensures) (sym (c .before .before .before .before .is-call .ensures) ∙ c .before .before .before .if1 .taken)) _ _ _ _ _ (c .break-call .ensures)
 
-trim-binary-returns-2 : (t : ℕ) → trim-binary-lts.Need-returns-2 (
-  trim-below t,
-  trim.Post,
-  is-call-reads.Asked,
-  is-call-reads.Learnt,
-  break-call-reads.Asked,
-  break-call-reads.Learnt,
-  full-reads.Asked,
-  full-reads.Learnt,
-  split-reads.Asked,
-  split-reads.Learnt,
-  calc-ershov-reads.Asked,
-  calc-ershov-reads.Learnt,
-) (trim-binary-at t) trim-binary.Post
+trim-binary-returns-2 : (t : ℕ) → trim-binary-lts.Need-returns-2 (trim-binary-claims t) (trim-binary-at t) trim-binary.Post
 trim-binary-returns-2 t c =
     let s = c .before .before .before .before .before .before .before .before .before .before .before .before .before .before in trims-stored _ _ _ _ _ _ _ _ _ _ (s .pre .1 .0) _ (s .pre .1 .1) _ _ _ _ _ (c .before .before .before .before .before .before .before .before .before .before .trim .ensures) _ _ _ _ _ (c .before .before .before .before .before .before .before .trim2 .ensures) (sym (c .before .before .before .before .full .ensures) ∙ c .before .before .before .if2 .taken) _ _ _ _ _ _ (sym (c .before .before .before .before .before .before .is-call .ensures) ∙ c .before .before .before .before .before .if1 .left) (c .split .ensures)
 
-trim-binary-returns-3 : (t : ℕ) → trim-binary-lts.Need-returns-3 (
-  trim-below t,
-  trim.Post,
-  is-call-reads.Asked,
-  is-call-reads.Learnt,
-  break-call-reads.Asked,
-  break-call-reads.Learnt,
-  full-reads.Asked,
-  full-reads.Learnt,
-  split-reads.Asked,
-  split-reads.Learnt,
-  calc-ershov-reads.Asked,
-  calc-ershov-reads.Learnt,
-) (trim-binary-at t) trim-binary.Post
+trim-binary-returns-3 : (t : ℕ) → trim-binary-lts.Need-returns-3 (trim-binary-claims t) (trim-binary-at t) trim-binary.Post
 trim-binary-returns-3 t c =
     let s = c .before .before .before .before .before .before .before .before .before .before .before .before in trims-two _ _ _ _ _ _ _ _ _ _ (s .pre .1 .0) _ (s .pre .1 .1) _ _ _ _ _ (c .before .before .before .before .before .before .before .before .trim .ensures) _ _ _ _ _ (c .before .before .before .before .before .trim2 .ensures) _ (sym (c .before .before .before .before .is-call .ensures) ∙ c .before .before .before .if1 .left) (sym (c .before .before .full .ensures) ∙ c .before .if2 .left) (c .calc-ershov .ensures)
 
-trim-node-returns : (t : ℕ) → trim-node-lts.Need-returns (
-  unpack-reads.Asked,
-  unpack-reads.Learnt,
-  trim-unary-below t,
-  trim-unary.Post,
-  trim-binary-below t,
-  trim-binary.Post,
-) (trim-node-at t) trim-node.Post
+trim-node-returns : (t : ℕ) → trim-node-lts.Need-returns (trim-node-claims t) (trim-node-at t) trim-node.Post
 trim-node-returns t c =
     trims-const _ _ _ _ _ _ _ _ _ (c .before .before .before .before .pre .1) _ (c .before .before .unpack .ensures) _ (c .enum-told .given .1)
 
-trim-node-returns-2 : (t : ℕ) → trim-node-lts.Need-returns-2 (
-  unpack-reads.Asked,
-  unpack-reads.Learnt,
-  trim-unary-below t,
-  trim-unary.Post,
-  trim-binary-below t,
-  trim-binary.Post,
-) (trim-node-at t) trim-node.Post
+trim-node-returns-2 : (t : ℕ) → trim-node-lts.Need-returns-2 (trim-node-claims t) (trim-node-at t) trim-node.Post
 trim-node-returns-2 t c =
     trims-var _ _ _ _ _ _ _ _ _ (c .before .before .before .before .pre .1) _ (c .before .before .unpack .ensures) _ (c .enum-told2 .given .1)
 
-trim-node-returns-3 : (t : ℕ) → trim-node-lts.Need-returns-3 (
-  unpack-reads.Asked,
-  unpack-reads.Learnt,
-  trim-unary-below t,
-  trim-unary.Post,
-  trim-binary-below t,
-  trim-binary.Post,
-) (trim-node-at t) trim-node.Post
+trim-node-returns-3 : (t : ℕ) → trim-node-lts.Need-returns-3 (trim-node-claims t) (trim-node-at t) trim-node.Post
 trim-node-returns-3 t c =
     c .trim-unary .ensures
 
-trim-node-returns-4 : (t : ℕ) → trim-node-lts.Need-returns-4 (
-  unpack-reads.Asked,
-  unpack-reads.Learnt,
-  trim-unary-below t,
-  trim-unary.Post,
-  trim-binary-below t,
-  trim-binary.Post,
-) (trim-node-at t) trim-node.Post
+trim-node-returns-4 : (t : ℕ) → trim-node-lts.Need-returns-4 (trim-node-claims t) (trim-node-at t) trim-node.Post
 trim-node-returns-4 t c =
     c .trim-binary .ensures
 
-trim-unary-returns : (t : ℕ) → trim-unary-lts.Need-returns (
-  trim-below t,
-  trim.Post,
-  break-call-reads.Asked,
-  break-call-reads.Learnt,
-) (trim-unary-at t) trim-unary.Post
+trim-unary-returns : (t : ℕ) → trim-unary-lts.Need-returns (trim-unary-claims t) (trim-unary-at t) trim-unary.Post
 trim-unary-returns t c =
     let s = c .before .before .before .before .before .before in trims-unary _ _ _ _ _ _ _ _ _ (s .pre .1 .0) _ (s .pre .1 .1) _ _ _ _ _ (c .before .before .trim .ensures) (ap isCallOne (c .enum-told .given .1))
 
-trim-unary-returns-2 : (t : ℕ) → trim-unary-lts.Need-returns-2 (
-  trim-below t,
-  trim.Post,
-  break-call-reads.Asked,
-  break-call-reads.Learnt,
-) (trim-unary-at t) trim-unary.Post
+trim-unary-returns-2 : (t : ℕ) → trim-unary-lts.Need-returns-2 (trim-unary-claims t) (trim-unary-at t) trim-unary.Post
 trim-unary-returns-2 t c =
     let s = c .before .before .before .before .before .before .before .before .before in trims-broken _ _ _ _ _ _ _ _ _ _ _ _ _ (s .pre .1 .0) (calling-one _ _ _ _ _ _ _ _ _ (s .pre .1 .0) _ (s .pre .1 .1) _ _ _ _ _ (c .before .before .before .before .before .trim .ensures) _ (c .before .before .before .enum-told2 .given .1)) _ _ _ _ _ (c .break-call .ensures)
 
 pub +trim+trim-binary+trim-node+trim-unary-spec : {M : Type 1} → statement M
 +trim+trim-binary+trim-node+trim-unary-spec =
-    close μ-trim μ-trim-binary μ-trim-node μ-trim-unary (λ t. trim-lts.spec (
-      trim-node-below t,
-      trim-node.Post,
-    )
-    (trim-at t)
+    close μ-trim μ-trim-binary μ-trim-node μ-trim-unary (λ t. trim-lts.spec (trim-claims t) (trim-at t)
     trim.Post
     (λ c. let s = c .before in omega (arith, s .pre .1 .within, s .pre .1 .table .few))
     (λ c. let s = c .before in omega (arith, s .pre .1 .within, s .pre .1 .table .few))
@@ -208,21 +137,7 @@ pub +trim+trim-binary+trim-node+trim-unary-spec : {M : Type 1} → statement M
     (λ c. let s = c .before .before .before .before .before .before in omega (arith, s .pre .1 .within, s .pre .1 .table .few))
     (λ c. let s = c .before .before .before .before .before .before in omega (arith, s .pre .1 .within, s .pre .1 .table .few))
     (trim-returns-2 t))
-    (λ t. trim-binary-lts.spec (
-      trim-below t,
-      trim.Post,
-      is-call-reads.Asked,
-      is-call-reads.Learnt,
-      break-call-reads.Asked,
-      break-call-reads.Learnt,
-      full-reads.Asked,
-      full-reads.Learnt,
-      split-reads.Asked,
-      split-reads.Learnt,
-      calc-ershov-reads.Asked,
-      calc-ershov-reads.Learnt,
-    )
-    (trim-binary-at t)
+    (λ t. trim-binary-lts.spec (trim-binary-claims t) (trim-binary-at t)
     trim-binary.Post
     (λ c. let s = c .before in omega (arith, s .pre .1 .0 .within, s .pre .1 .0 .table .few))
     (λ c κs. let s = c .before .before .before in (omega (arith, s .pre .0, s .pre .1 .0 .within), ready-left (s .args .sharing) (s .args .scratch) (s .args .ws .now) (s .args .ms .now) (s .args .rs .now) (s .args .n) (s .args .i) (s .args .r) ((s .args .s) .next) ((s .args .s) .count) (s .pre .1 .0) (s .args .o) (s .pre .1 .1)))
@@ -236,15 +151,7 @@ pub +trim+trim-binary+trim-node+trim-unary-spec : {M : Type 1} → statement M
     (trim-binary-returns-2 t)
     (λ c κs. omega (arith, c .before .before .before .before .before .before .before .trim .ensures .few, c .before .before .before .before .before .before .before .before .before .before .before .pre .1 .0 .narrow))
     (trim-binary-returns-3 t))
-    (λ t. trim-node-lts.spec (
-      unpack-reads.Asked,
-      unpack-reads.Learnt,
-      trim-unary-below t,
-      trim-unary.Post,
-      trim-binary-below t,
-      trim-binary.Post,
-    )
-    (trim-node-at t)
+    (λ t. trim-node-lts.spec (trim-node-claims t) (trim-node-at t)
     trim-node.Post
     (λ c κs. let s = c .before in laid-room _ 64 _ (s .pre .1 .table .laid _ (s .pre .1 .within)))
     (λ c. search needs)
