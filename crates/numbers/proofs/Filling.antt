@@ -8,7 +8,7 @@ use lib.Seq.{getD-set-same, getD-set-other}
 use Rattle.definitions.specs.Tree.{Tree}
 use Rattle.definitions.proofs.Comparing.{Compared, compared}
 use Rattle.node.specs.declared.Node.{Node}
-use Rattle.node.specs.Nodes.{nodeAt, nodeTree, tree, Table}
+use Rattle.node.specs.Nodes.{nodeAt, nodeTree, tree, Laid, Table}
 use Rattle.numbers.specs.Filled.{at, Sides, Filled, Low}
 use Rattle.numbers.proofs.Tables.{Between, sides-more, tree-node, sides-between}
 
@@ -28,11 +28,11 @@ filled-more f ws xs i n v l e h j hj lj =
     (getD-set-same xs i v 0 l ∙ e)
     (λ g. getD-set-other xs i j v 0 (λ d. omega arith) ∙ h j g lj)
 
--- a number of trees that a node has from its sides, and that no tree of a table has above 65
+-- a number of trees that a node has from its sides, and that no tree of a table has above 64
 pub record Numbering : Type 1 where
   pub number : Tree → ℕ
   pub over : (ℕ → ℕ) → ℕ → Node → ℕ
-  pub low : (ws : List ℕ) (i : ℕ) → number (tree ws i) ≤ 65
+  pub low : (ws : List ℕ) (i : ℕ) → Laid 64 ws i → number (tree ws i) ≤ 64
   pub agrees : (f : ℕ → ℕ) (T : ℕ → Tree) (P : ℕ → Type 0) → ((a : ℕ) → P a → f a ≡ number (T a)) → (i : ℕ) (x : Node) → Sides P i x
       → over f i x ≡ number (nodeTree T i x)
 
@@ -41,7 +41,7 @@ module _ (k : Numbering) (ws xs : List ℕ) (i n : ℕ) (x : Node) (t : Table ws
   pub sides-low : Sides (Low xs) i x
   sides-low =
       rw e (sides-more (Between i n) (Low xs)
-      (λ a b. record { inside = omega (arith, b .below, t .few); low = rw (f a (b .after) (b .below)) (k .low ws a) })
+      (λ a b. record { inside = omega (arith, b .below, t .few); low = rw (f a (b .after) (b .below)) (k .low ws a (t .laid a (b .below))) })
       i (nodeAt ws i) (sides-between t i l))
 
   pub number-more : (v : ℕ) → length xs ≡ 1024 → v ≡ k .over (at xs) i x → Filled (k .number) ws (set xs i v) i n

@@ -1,6 +1,6 @@
 -- `numbers::ershovs` meets its contract: the loop has filled in the numbers of all nodes from i on.
 use Rattle.numbers.proofs.Filling.{sides-low, number-more}
-use Rattle.numbers.proofs.Joining.{ershov-numbering}
+use Rattle.numbers.proofs.Numberings.{ershov-numbering}
 use native.Mathlib.Omega.{arith}
 use Prim.Native.Nat.{_≤_, _-_}
 use mathlib.Core.Path.{_≡_}
@@ -51,6 +51,7 @@ ershovs-spec =
     (λ c. search needs)
     (λ c κs. search needs)
     ershov-of-requires
+    (λ c. search needs)
     (λ c. search needs)
     (λ c. search needs)
     (λ c. search needs)
