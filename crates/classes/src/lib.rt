@@ -1,78 +1,38 @@
 // The class of every node's tree: same trees have one class, and others another.
 use node::Node;
-use operation::One;
-use operation::Two;
 ghost use mathlib.Core.Path.{_≡_};
 ghost use Prim.Native.Nat.{suc, _+_, _%_, _<_, _≤_};
 ghost use lib.ListN.{length};
 ghost use Rattle.definitions.specs.Same.{same};
 ghost use Rattle.node.specs.Nodes.{tree, Table};
 ghost use Rattle.numbers.specs.Filled.{at};
-ghost use Rattle.classes.specs.Copies.{oneCopy, twoCopy, orderedCopy, copyOf, equalCopies};
+ghost use Rattle.classes.specs.Copies.{ordered, copied, copyOf, equalCopies};
 ghost use Rattle.classes.specs.Classes.{Classed, Inside, nodeMix, slot, Linked, alike, Found};
 
-// A copy of a node: how many sides, tag, kind of its place, code, function or index, and the classes of its sides.
+// A copy of a node: its tag, its word and the classes of its sides.
 pub struct Copied {
-    pub sides: u8,
     pub tag: u32,
-    pub kind: u8,
     pub word: u32,
     pub first: u32,
     pub second: u32,
 }
 
-fn copy_one(o: One, a: u32) -> Copied
-    ensures { λ r. ⌜ r ≡ oneCopy o a ⌝ }
-{
-    Copied {
-        sides: 1,
-        tag: node::one_tag(o),
-        kind: 0,
-        word: node::one_word(o),
-        first: a,
-        second: 0,
-    }
-}
-
-fn copy_two(o: Two, a: u32, b: u32) -> Copied
-    ensures { λ r. ⌜ r ≡ twoCopy o a b ⌝ }
-{
-    match o {
-        Two::Binary(c) => Copied {
-            sides: 2,
-            tag: 4,
-            kind: 0,
-            word: c as u32,
-            first: a,
-            second: b,
-        },
-        Two::Choice(condition) => Copied {
-            sides: 2,
-            tag: 5,
-            kind: symbol::kind_of(condition),
-            word: symbol::index_of(condition) as u32,
-            first: a,
-            second: b,
-        },
-        Two::Function2(f) => Copied {
-            sides: 2,
-            tag: 7,
-            kind: 0,
-            word: f as u32,
-            first: a,
-            second: b,
-        },
-    }
-}
-
 // Sides that may be exchanged are put in order.
-fn copy_ordered(o: Two, a: u32, b: u32) -> Copied
-    ensures { λ r. ⌜ r ≡ orderedCopy o a b ⌝ }
+fn copy_over(x: Node, exchange: bool, a: u32, b: u32) -> Copied
+    ensures { λ r. ⌜ r ≡ copied x (ordered exchange a b) ⌝ }
 {
-    if mix::exchanged(o) & (b < a) {
-        return copy_two(o, b, a);
+    let mut first = a;
+    let mut second = b;
+    if exchange & (b < a) {
+        first = b;
+        second = a;
     }
-    copy_two(o, a, b)
+    Copied {
+        tag: node::tag_of(x),
+        word: node::word_of(x),
+        first: first,
+        second: second,
+    }
 }
 
 // The copy of node i.
@@ -81,36 +41,22 @@ fn copy_node(x: Node, i: u32, cs: &[u32; 1024]) -> Copied
     ensures { λ r. ⌜ r ≡ copyOf (at (now (cs .entry))) i x ⌝ }
 {
     match x {
-        Node::Const(k) => Copied {
-            sides: 0,
-            tag: 1,
-            kind: 0,
-            word: k as u32,
-            first: 0,
-            second: 0,
-        },
-        Node::Var(p) => Copied {
-            sides: 0,
-            tag: 2,
-            kind: symbol::kind_of(p),
-            word: symbol::index_of(p) as u32,
-            first: 0,
-            second: 0,
-        },
-        Node::Unary(o) => copy_one(o, cs[i as usize + 1]),
-        Node::Binary(o, right) => copy_ordered(o, cs[i as usize + 1], cs[right as usize]),
+        Node::Const(_) => copy_over(x, false, 0, 0),
+        Node::Var(_) => copy_over(x, false, 0, 0),
+        Node::Unary(_) => copy_over(x, false, cs[i as usize + 1], 0),
+        Node::Binary(o, right) => copy_over(
+            x,
+            mix::exchanged(o),
+            cs[i as usize + 1],
+            cs[right as usize],
+        ),
     }
 }
 
 fn equal_copies(p: Copied, q: Copied) -> bool
     ensures { λ r. ⌜ r ≡ equalCopies p q ⌝ }
 {
-    (p.sides == q.sides)
-        & (p.tag == q.tag)
-        & (p.kind == q.kind)
-        & (p.word == q.word)
-        & (p.first == q.first)
-        & (p.second == q.second)
+    (p.tag == q.tag) & (p.word == q.word) & (p.first == q.first) & (p.second == q.second)
 }
 
 // The mix of node i, from those of its sides.

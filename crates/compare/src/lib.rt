@@ -1,86 +1,16 @@
 // Are two trees the same, as their marks show them? In place, with nothing copied.
 use node::Node;
-use operation::One;
 use operation::Two;
-use symbol::Loc;
 ghost use mathlib.Core.Path.{_≡_};
-ghost use Rattle.symbol.specs.Place.{samePlace};
-ghost use Rattle.definitions.specs.Same.{sameOne, sameTwo, exchanges};
-ghost use Rattle.compare.specs.Comparison.{sameHead, Pair, Pairs, SameSeen, SameView, BothViews, SideViews};
+ghost use Rattle.definitions.specs.Same.{exchanges};
+ghost use Rattle.node.specs.Nodes.{sameHead};
+ghost use Rattle.compare.specs.Comparison.{Pair, Pairs, SameSeen, SameView, BothViews, SideViews};
 
-fn same_place(p: Loc, q: Loc) -> bool
-    ensures { λ r. ⌜ r ≡ samePlace p q ⌝ }
-{
-    (symbol::kind_of(p) == symbol::kind_of(q)) & (symbol::index_of(p) == symbol::index_of(q))
-}
-
-fn same_one(o: One, u: One) -> bool
-    ensures { λ r. ⌜ r ≡ sameOne o u ⌝ }
-{
-    match o {
-        One::Unary(c) => match u {
-            One::Unary(d) => c == d,
-            One::Function1(_) => false,
-        },
-        One::Function1(f) => match u {
-            One::Unary(_) => false,
-            One::Function1(g) => f == g,
-        },
-    }
-}
-
-fn same_two(o: Two, u: Two) -> bool
-    ensures { λ r. ⌜ r ≡ sameTwo o u ⌝ }
-{
-    match o {
-        Two::Binary(c) => match u {
-            Two::Binary(d) => c == d,
-            Two::Choice(_) => false,
-            Two::Function2(_) => false,
-        },
-        Two::Choice(p) => match u {
-            Two::Binary(_) => false,
-            Two::Choice(q) => same_place(p, q),
-            Two::Function2(_) => false,
-        },
-        Two::Function2(f) => match u {
-            Two::Binary(_) => false,
-            Two::Choice(_) => false,
-            Two::Function2(g) => f == g,
-        },
-    }
-}
-
-// Do two nodes have the same index, place or operator?
+// Do two nodes have one index, place or operator?
 fn same_head(x: Node, y: Node) -> bool
     ensures { λ r. ⌜ r ≡ sameHead x y ⌝ }
 {
-    match x {
-        Node::Const(i) => match y {
-            Node::Const(j) => i == j,
-            Node::Var(_) => false,
-            Node::Unary(_) => false,
-            Node::Binary(_, _) => false,
-        },
-        Node::Var(p) => match y {
-            Node::Const(_) => false,
-            Node::Var(q) => same_place(p, q),
-            Node::Unary(_) => false,
-            Node::Binary(_, _) => false,
-        },
-        Node::Unary(o) => match y {
-            Node::Const(_) => false,
-            Node::Var(_) => false,
-            Node::Unary(u) => same_one(o, u),
-            Node::Binary(_, _) => false,
-        },
-        Node::Binary(o, _) => match y {
-            Node::Const(_) => false,
-            Node::Var(_) => false,
-            Node::Unary(_) => false,
-            Node::Binary(u, _) => same_two(o, u),
-        },
-    }
+    (node::tag_of(x) == node::tag_of(y)) & (node::word_of(x) == node::word_of(y))
 }
 
 // May the sides be exchanged?

@@ -6,7 +6,7 @@ ghost use mathlib.Core.Path.{_≡_};
 ghost use Prim.Native.Nat.{_+_, _*_, _<_};
 ghost use lib.ListN.{length};
 ghost use lib.Seq.{sets};
-ghost use Rattle.node.specs.Nodes.{oneTag, oneWord, twoTag, twoWord, nodeWords, nodeOf, nodeAt, endAt};
+ghost use Rattle.node.specs.Nodes.{oneTag, oneWord, twoTag, twoWord, nodeTag, nodeWord, nodeRight, nodeWords, nodeOf, nodeAt, endAt};
 
 // The left side of node i is node i + 1; a node over two trees has the number of its right side.
 pub enum Node {
@@ -55,17 +55,47 @@ pub fn two_word(o: Two) -> u32
     }
 }
 
+// A node's tag and its word: nodes with one index, place or operator have equal ones.
+pub fn tag_of(x: Node) -> u32
+    ensures { λ r. ⌜ r ≡ nodeTag x ⌝ }
+{
+    match x {
+        Node::Const(_) => 1,
+        Node::Var(_) => 2,
+        Node::Unary(o) => one_tag(o),
+        Node::Binary(o, _) => two_tag(o),
+    }
+}
+
+pub fn word_of(x: Node) -> u32
+    ensures { λ r. ⌜ r ≡ nodeWord x ⌝ }
+{
+    match x {
+        Node::Const(k) => k as u32,
+        Node::Var(p) => symbol::place_word(p),
+        Node::Unary(o) => one_word(o),
+        Node::Binary(o, _) => two_word(o),
+    }
+}
+
+// The number of its right side, 0 where it has none.
+fn right_of(x: Node) -> u32
+    ensures { λ r. ⌜ r ≡ nodeRight x ⌝ }
+{
+    match x {
+        Node::Const(_) => 0,
+        Node::Var(_) => 0,
+        Node::Unary(_) => 0,
+        Node::Binary(_, right) => right,
+    }
+}
+
 // Node i, whose tree ends before node end; no word is stored past the words.
-pub fn pack(ws: &mut [u32], i: u32, n: Node, end: u32)
-    ensures { λ _. ⌜ now (ws .exit) ≡ sets (now (ws .entry)) (4 * i) (nodeWords n end) ⌝ }
+pub fn pack(ws: &mut [u32], i: u32, x: Node, end: u32)
+    ensures { λ _. ⌜ now (ws .exit) ≡ sets (now (ws .entry)) (4 * i) (nodeWords x end) ⌝ }
 {
     let at = 4 * (i as usize);
-    match n {
-        Node::Const(k) => words::put_four(ws, at, 1, k as u32, 0, end),
-        Node::Var(p) => words::put_four(ws, at, 2, symbol::place_word(p), 0, end),
-        Node::Unary(o) => words::put_four(ws, at, one_tag(o), one_word(o), 0, end),
-        Node::Binary(o, right) => words::put_four(ws, at, two_tag(o), two_word(o), right, end),
-    }
+    words::put_four(ws, at, tag_of(x), word_of(x), right_of(x), end)
 }
 
 // The node of three words.
