@@ -10,7 +10,7 @@ use borrow.Author.Tests.{le-leb, lt-leb}
 use Rattle.definitions.specs.Tree.{Tree, weight}
 use Rattle.definitions.specs.Same.{same, among}
 use Rattle.definitions.specs.Eliminate.{Walk, note, nowhere, foundOr, find}
-use Rattle.share.specs.Sharing.{foundMark, markOf}
+use Rattle.node.specs.Marks.{foundMark, markOf}
 
 -- a tree is among the texts if it has a mark
 among-by : (n : ℕ) (xs : List Tree) (u : Tree) → among xs u ≡ leb 1 (foundMark (find n xs u))
