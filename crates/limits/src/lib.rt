@@ -1,0 +1,54 @@
+// The limits of a sheet, by name, and the arrays that they size.
+ghost use mathlib.Core.Path.{_≡_};
+ghost use Rattle.limits.specs.Limits.{nodeLimit, depthLimit, rowLimit};
+
+// The words of lent work, and the bytes of a file.
+pub const WORK: usize = 16384;
+
+pub const BYTES: usize = 16384;
+
+// Where the flags end; the last tag.
+pub const FLAGS: u8 = 4;
+
+pub const LAST_TAG: u8 = 7;
+
+// A sheet's statements and nodes.
+pub const STATEMENTS: usize = 256;
+
+pub const NODES: usize = 1024;
+
+// The levels of a tree, and of a tree below a root.
+pub const DEPTH: u32 = 64;
+
+pub const SIDE: u32 = DEPTH - 1;
+
+// Where stack indexes end.
+pub const INDEXES: u32 = 65536;
+
+// Rows of statements: the sheet's own, and one for each node's mark.
+pub const ROWS: usize = STATEMENTS + NODES;
+
+// A word for each node, or for each of as many temporaries.
+pub type PerNode = [u32; NODES];
+
+// Three words a row.
+pub type Rows = [u32; 3 * ROWS];
+
+// The array sizes and the depth are those of the definitions; contracts elsewhere hold the other limits to theirs.
+pub fn nodes() -> usize
+    ensures { λ r. ⌜ r ≡ nodeLimit ⌝ }
+{
+    NODES
+}
+
+pub fn depth() -> u32
+    ensures { λ r. ⌜ r ≡ depthLimit ⌝ }
+{
+    DEPTH
+}
+
+pub fn rows() -> usize
+    ensures { λ r. ⌜ r ≡ rowLimit ⌝ }
+{
+    ROWS
+}
