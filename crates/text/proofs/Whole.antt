@@ -7,11 +7,12 @@ use mathlib.Core.Path.{_≡_, refl, sym, ap, ap₂, _∙_}
 use lib.ListN.{length, getD, take, replicate, length-append}
 use lib.Seq.{take-at}
 use lib.Dec.{ltb}
+use Rattle.limits.specs.Limits.{workWords, indexEnd}
 use Rattle.definitions.specs.Statement.{Statement}
-use Rattle.definitions.specs.Sheet.{Read, got, bad, sheetOf, scratchCount, step, firstTemporary}
-use Rattle.definitions.specs.Trim.{tooWide}
+use Rattle.definitions.specs.Sheet.{Read, got, bad, fused, step, firstTemporary}
+use Rattle.definitions.specs.Emit.{emitAll}
 use Rattle.definitions.specs.Operations.{Op, listWords, wordsList}
-use Rattle.definitions.specs.Answer.{Answer, trimmed, temporaryCount, operations, refusal, acceptance, answerRead, answer}
+use Rattle.definitions.specs.Answer.{Answer, refusal, acceptance, compiled, judged, answer}
 use Rattle.definitions.specs.Text.{linesText, answerText, textBy}
 use Rattle.definitions.proofs.Words.{list-words-length}
 use Rattle.text.specs.declared.Line.{Line}
@@ -93,14 +94,13 @@ acceptance-roomy : (list : List Op) (temps room : ℕ) → Roomy (acceptance lis
 acceptance-roomy list temps room =
     record { room = omega (arith, length-append (listWords list) (replicate (room - 6 * length list) 0), list-words-length list) }
 
-read-roomy : (file : List ℕ) (room : ℕ) (r : Read (List Statement)) → Roomy (answerRead file room r)
-read-roomy file room (bad k) = refusal-roomy k room
-read-roomy file room (got ss n) =
-    either-roomy (tooWide (scratchCount file) (trimmed file ss .statements)) (refusal-roomy 8 room)
-    (either-roomy (ltb 65536 (firstTemporary file + step file * temporaryCount file ss)) (refusal-roomy 9 room)
-    (either-roomy (ltb room (6 * length (operations file ss))) (refusal-roomy 10 room)
-    (acceptance-roomy (operations file ss) (temporaryCount file ss) room)))
+judged-roomy : (file : List ℕ) (room : ℕ) (r : Read (List Statement)) → Roomy (judged file room r)
+judged-roomy file room (bad k) = refusal-roomy k room
+judged-roomy file room (got ss temps) =
+    either-roomy (ltb indexEnd (firstTemporary file + step file * temps)) (refusal-roomy 9 room)
+    (either-roomy (ltb room (6 * length (emitAll (fused file) ss))) (refusal-roomy 10 room)
+    (acceptance-roomy (emitAll (fused file) ss) temps room))
 
 pub answer-roomy : (file : List ℕ) (work room : ℕ) → Roomy (answer file work room)
 unfolding answer
-answer-roomy file work room = either-roomy (ltb work 16384) (refusal-roomy 1 room) (read-roomy file room (sheetOf file))
+answer-roomy file work room = either-roomy (ltb work workWords) (refusal-roomy 1 room) (judged-roomy file room (compiled file))

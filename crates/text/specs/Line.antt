@@ -44,11 +44,13 @@ countsText n t = bytes "ops " ++ decimal n ++ bytes " temps " ++ decimal t ++ ne
 abbrev pub refusedText : ℕ → List ℕ
 refusedText k = bytes "refused " ++ decimal k ++ newline
 
--- the line of operation i of a list's words, and those of the first n
+-- the line of the six words from a place on; that of operation i of a list's words, and those of the first n
+abbrev pub lineFrom : List ℕ → (at : ℕ) → List ℕ
+lineFrom ws at =
+    lineText (getD ws at 0) (getD ws (at + 1) 0) (getD ws (at + 2) 0) (getD ws (at + 3) 0) (getD ws (at + 4) 0) (getD ws (at + 5) 0)
+
 abbrev pub lineAt : List ℕ → ℕ → List ℕ
-lineAt ws i =
-    lineText (getD ws (6 * i) 0) (getD ws (6 * i + 1) 0) (getD ws (6 * i + 2) 0) (getD ws (6 * i + 3) 0) (getD ws (6 * i + 4) 0)
-    (getD ws (6 * i + 5) 0)
+lineAt ws i = lineFrom ws (6 * i)
 
 unfoldable pub linesOf : List ℕ → (n : ℕ) → List ℕ
 linesOf ws zero = []

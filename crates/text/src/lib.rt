@@ -9,7 +9,7 @@ ghost use Rattle.symbol.specs.Place.{wordPlace};
 ghost use Rattle.operation.specs.Names.{unaryName, binaryName, spelled};
 ghost use Rattle.definitions.specs.Operations.{opCall, wordsOp};
 ghost use Rattle.definitions.specs.Text.{decimalBelow, decimal, registerText, placeText, constantText, opText};
-ghost use Rattle.text.specs.Line.{lineOf, Adds, Prints, lineText, countsText, refusedText};
+ghost use Rattle.text.specs.Line.{lineOf, Adds, Prints, lineText, lineFrom, countsText, refusedText};
 
 // A line: 128 bytes, and how many of them are its text.
 pub struct Line {
@@ -192,10 +192,25 @@ fn put_op(l: Line, kind: u32, code: u32, d: u32, s1: u32, s2: u32, place: u32) -
 }
 
 // The line of an operation.
-pub fn line_text(kind: u32, code: u32, d: u32, s1: u32, s2: u32, place: u32) -> Line
+fn line_text(kind: u32, code: u32, d: u32, s1: u32, s2: u32, place: u32) -> Line
     ensures { λ r. ⌜ Prints r (lineText kind code d s1 s2 place) ⌝ }
 {
     put(put_op(blank(), kind, code, d, s1, s2, place), b"\n")
+}
+
+// The line of the operation whose words begin at a place.
+pub fn line_at(out: &[u32], at: usize) -> Line
+    requires { ⌜ at + 6 ≤ length (now out) ⌝ }
+    ensures { λ r. ⌜ Prints r (lineFrom (now (out .entry)) at) ⌝ }
+{
+    line_text(
+        out[at],
+        out[at + 1],
+        out[at + 2],
+        out[at + 3],
+        out[at + 4],
+        out[at + 5],
+    )
 }
 
 // The first line of an accepted sheet.

@@ -4,7 +4,7 @@ use native.Mathlib.Omega.{arith}
 use borrow.Author.Needs.{needs}
 use borrow.Fn.Kinds.{In}
 use borrow.Fn.PlainCycle.{Measures, is, falls, and}
-use Rattle.text.proofs.Laws.{digits-none, digits-last, digits-more}
+use Rattle.text.proofs.Lines.{digits-none, digits-last, digits-more}
 use Rattle.text.proofs.put_digits.Reads as put-digits
 use Rattle.text.proofs.put_digits.Kinds as put-digits-kinds
 use Rattle.text.proofs.+put_digits.Lts-put_digits as put-digits-lts

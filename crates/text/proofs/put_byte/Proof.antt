@@ -1,6 +1,6 @@
 -- `text::put_byte` meets its contract.
 use borrow.Author.Needs.{needs}
-use Rattle.text.proofs.Laws.{adds-byte}
+use Rattle.text.proofs.Lines.{adds-byte}
 use Rattle.text.proofs.put_byte.Statement.{statement}
 use Rattle.text.proofs.put_byte.Tie as tie
 

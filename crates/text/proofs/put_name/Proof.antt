@@ -4,7 +4,7 @@ use mathlib.Core.Path.{_≡_, sym}
 use lib.ListN.{length}
 use lib.Seq.{length-take-le}
 use borrow.Author.Needs.{needs}
-use Rattle.text.proofs.Laws.{adds-within}
+use Rattle.text.proofs.Lines.{adds-within}
 use Rattle.text.proofs.put_name.Statement.{statement}
 use Rattle.text.proofs.put_name.Tie as tie
 
@@ -27,8 +27,4 @@ returns c =
 pub put-name-spec : {M : Type 1} → statement M
 put-name-spec =
     tie.close
-    (tie.spec
-    (λ c. search needs)
-    slice-aggregate-put
-    put-requires
-    returns)
+    (tie.spec (λ c. search needs) slice-aggregate-put put-requires returns)
