@@ -1,0 +1,30 @@
+-- What the second pass of `eliminate` is given, and what it puts out.
+use mathlib.Core.Path.{_≡_}
+use Prim.Native.Nat.{ℕ}
+use mathlib.Core.List.{List, []}
+use lib.ListN.{length}
+use Rattle.limits.specs.Limits.{rowsLength}
+use Rattle.symbol.specs.declared.Loc.{Loc}
+use Rattle.definitions.specs.Tree.{Tree}
+use Rattle.definitions.specs.Eliminate.{eliminate}
+use Rattle.statement.specs.Rows.{rowsFrom, statementsOf, sheetFrom}
+use Rattle.statement.specs.Handover.{SheetHeld, SheetShared, SheetEliminated}
+
+-- a sheet with its shared trees, and words for rows
+pub record Start (ws sh tx rows out : List ℕ) (count : ℕ) : Type 0 where
+  pub nodes : ℕ
+  pub texts : List Tree
+  pub held : SheetHeld ws rows nodes count
+  pub shared : SheetShared ws sh tx nodes texts
+  pub long : length out ≡ rowsLength
+
+-- the e rows put out are the eliminated statements, fit for trimming
+pub record RewrittenSheet (ws sh rows out : List ℕ) (count e n : ℕ) (texts : List Tree) : Type 0 where
+  pub handed : SheetEliminated ws sh out n (record { next = length texts; count = e })
+  pub statements : (temporary : ℕ → Loc) →
+      statementsOf temporary ws sh (rowsFrom out 0 e) ≡ eliminate texts temporary [] (sheetFrom ws rows 0 count)
+
+abbrev pub Eliminates : (ws sh tx rows out : List ℕ) (count e : ℕ) → Type 0
+Eliminates ws sh tx rows out count e =
+    (n : ℕ) (texts : List Tree) → SheetHeld ws rows n count → SheetShared ws sh tx n texts →
+    RewrittenSheet ws sh rows out count e n texts
