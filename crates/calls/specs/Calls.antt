@@ -1,0 +1,65 @@
+-- What the search for an earlier call asks and answers, and what a call at a node comes to.
+use mathlib.Core.Path.{_≡_}
+use Prim.Native.Nat.{ℕ, _+_, _-_, _*_, _<_, _≤_}
+use mathlib.Core.Bool.{Bool, cond, true}
+use mathlib.Core.List.{List}
+use mathlib.Core.Option.{Option, none, some}
+use lib.Seq.{sets}
+use lib.Dec.{eqb}
+use Rattle.limits.specs.Limits.{rowLimit, temporaryLimit}
+use Rattle.symbol.specs.declared.Loc.{Loc}
+use Rattle.definitions.specs.Trim.{seek}
+use Rattle.node.specs.Nodes.{nodeAt, endAt, isFunction, Table}
+use Rattle.node.specs.Views.{seen, Fresh}
+use Rattle.statement.specs.declared.Row.{Row}
+use Rattle.statement.specs.declared.Row.the-variants.{Made}
+use Rattle.statement.specs.Rows.{rowWords, rowsFrom, statementsOf}
+use Rattle.statement.specs.Rowing.{All, OnRoot, NumberedBelow}
+use Rattle.compare.specs.Comparison.{Comparable}
+
+-- the call at node i is sought among rows: they have roots to compare, and numbers
+pub record CallSought (ws : List ℕ) (i : ℕ) (rows : List Row) : Type 0 where
+  pub tree : Comparable ws i
+  pub called : isFunction (nodeAt ws i) ≡ true
+  pub placed : All (OnRoot (Comparable ws)) rows
+  pub named : All (NumberedBelow temporaryLimit) rows
+
+-- the earlier temporary of the call at node i among rows, none with sharing off
+abbrev pub sought : (sharing : Bool) (temporary : ℕ → Loc) (ws ms : List ℕ) (i : ℕ) → List Row → Option Loc
+sought sharing temporary ws ms i rows = cond sharing (seek (seen temporary ws ms i) (statementsOf temporary ws ms rows)) none
+
+-- an answer as a number: 0, or 1 + the number of the temporary
+abbrev pub foundAs : (temporary : ℕ → Loc) (m : ℕ) → Option Loc
+foundAs temporary m = cond (eqb m 0) none (some (temporary (m - 1)))
+
+-- temporaries are no variables of the call's tree and of the rows' trees
+pub record CallFresh (temporary : ℕ → Loc) (ws : List ℕ) (i : ℕ) (rows : List Row) : Type 0 where
+  pub nodes : ℕ
+  pub fresh : Fresh temporary ws nodes
+  pub tree : endAt ws i ≤ nodes
+  pub trees : All (OnRoot (λ b. endAt ws b ≤ nodes)) rows
+
+-- what the search answers, whatever places the temporaries have
+pub record CallFound (sharing : Bool) (ws ms : List ℕ) (i : ℕ) (rows : List Row) (m : ℕ) : Type 0 where
+  pub mark : (next : ℕ) → All (NumberedBelow next) rows → m ≤ next
+  pub is : (temporary : ℕ → Loc) → CallFresh temporary ws i rows → sought sharing temporary ws ms i rows ≡ foundAs temporary m
+
+-- a call at node i of a table may be broken out
+pub record CallReady (ws rs : List ℕ) (n i count : ℕ) : Type 0 where
+  pub table : Table ws n
+  pub within : i < n
+  pub called : isFunction (nodeAt ws i) ≡ true
+  pub few : count ≤ rowLimit
+  pub placed : All (OnRoot (λ b. b < n)) (rowsFrom rs 0 count)
+  pub named : All (NumberedBelow temporaryLimit) (rowsFrom rs 0 count)
+
+-- it was: an earlier call gives its temporary, or a row is put for it
+pub data CallBroken (sharing : Bool) (ws ms rs rs′ : List ℕ) (n i next count next′ count′ er temp : ℕ) : Type 0 where
+  found : rs′ ≡ rs → next′ ≡ next → count′ ≡ count → er ≡ 1 → 0 < temp → temp ≤ next
+      → ((temporary : ℕ → Loc) → Fresh temporary ws n →
+      sought sharing temporary ws ms i (rowsFrom rs 0 count) ≡ some (temporary (temp - 1)))
+      → CallBroken sharing ws ms rs rs′ n i next count next′ count′ er temp
+  made : rs′ ≡ sets rs (3 * count) (rowWords (Made next i)) → next′ ≡ next + 1 → count′ ≡ count + 1 → er ≡ 1
+      → temp ≡ next + 1
+      → ((temporary : ℕ → Loc) → Fresh temporary ws n → sought sharing temporary ws ms i (rowsFrom rs 0 count) ≡ none)
+      → CallBroken sharing ws ms rs rs′ n i next count next′ count′ er temp
