@@ -1,5 +1,8 @@
 // Replays the recorded vectors: compiles each sheet and compares the answer with what is recorded.
 use builder::Answer;
+use limits::BYTES;
+use limits::WORK;
+ghost use Rattle.limits.specs.Limits.{workWords};
 ghost use mathlib.Core.Path.{_≡_};
 ghost use Prim.Native.Nat.{_+_, _≤_, _<_};
 ghost use mathlib.Core.Bool.{true};
@@ -58,21 +61,6 @@ fn past_line(all: &[u8], at: usize, l: text::Line) -> usize
     past(all, at, &bytes[..n])
 }
 
-// The line of the operation whose words begin at a place.
-fn line_at(out: &[u32], at: usize) -> text::Line
-    requires { ⌜ at + 6 ≤ length (now out) ⌝ }
-    ensures { λ r. ⌜ Lent r ⌝ }
-{
-    text::line_text(
-        out[at],
-        out[at + 1],
-        out[at + 2],
-        out[at + 3],
-        out[at + 4],
-        out[at + 5],
-    )
-}
-
 // And with the lines of the first n operations of the words.
 fn past_list(all: &[u8], at: usize, out: &[u32], n: u32) -> usize
     requires { ⌜ at ≤ length (now all) ⌝ }
@@ -85,7 +73,7 @@ fn past_list(all: &[u8], at: usize, out: &[u32], n: u32) -> usize
         if out.len() - word < 6 {
             return all.len();
         }
-        here = past_line(all, here, line_at(out, word));
+        here = past_line(all, here, text::line_at(out, word));
         word += 6;
         i += 1;
     }
@@ -200,7 +188,7 @@ fn read_number(all: &[u8], at: usize) -> Found
         if 9 < d {
             return Found { n: n, at: here };
         }
-        if 16384 < n {
+        if WORK < n {
             return Found { n: n, at: here };
         }
         n = n * 10 + d as usize;
@@ -249,11 +237,11 @@ fn answered(all: &[u8], at: usize, file: &[u8], work: &mut [u32], out: &mut [u32
 // The same with so many words lent, none of which is zero before.
 fn lent(all: &[u8], at: usize, file: &[u8], works: usize, outs: usize) -> bool
     requires { ⌜ at ≤ length (now all) ⌝ }
-    requires { ⌜ works ≤ 16384 ⌝ }
-    requires { ⌜ outs ≤ 16384 ⌝ }
+    requires { ⌜ works ≤ workWords ⌝ }
+    requires { ⌜ outs ≤ workWords ⌝ }
 {
-    let mut work = [7u32; 16384];
-    let mut out = [7u32; 16384];
+    let mut work = [7u32; WORK];
+    let mut out = [7u32; WORK];
     answered(all, at, file, &mut work[..works], &mut out[..outs])
 }
 
@@ -261,17 +249,17 @@ fn lent(all: &[u8], at: usize, file: &[u8], works: usize, outs: usize) -> bool
 fn holds(all: &[u8], at: usize) -> bool
     requires { ⌜ at ≤ length (now all) ⌝ }
 {
-    let mut file = [0u8; 16385];
+    let mut file = [0u8; BYTES + 1];
     let sheet = read_bytes(all, past(all, at, b"sheet "), &mut file);
     let works = read_number(all, past(all, sheet.at, b"\nlent "));
     let outs = read_number(all, past(all, works.at, b" "));
     let n = sheet.n;
     let w = works.n;
     let o = outs.n;
-    if 16384 < w {
+    if WORK < w {
         return false;
     }
-    if 16384 < o {
+    if WORK < o {
         return false;
     }
     lent(all, past(all, outs.at, b"\n"), &file[..n], w, o)

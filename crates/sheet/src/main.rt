@@ -1,7 +1,8 @@
 // Reads a sheet from standard input and prints its list, or the number of its refusal.
 use builder::Answer;
-ghost use Prim.Native.Nat.{_+_, _≤_};
-ghost use lib.ListN.{length};
+use limits::BYTES;
+use limits::WORK;
+ghost use Prim.Native.Nat.{_+_};
 ghost use Rattle.text.specs.Line.{Lent};
 
 // Prints the text of a line.
@@ -13,21 +14,6 @@ fn print(l: text::Line)
     io::write_all(1, &bytes[..n]);
 }
 
-// The line of the operation whose words begin at a place.
-fn line_at(out: &[u32], at: usize) -> text::Line
-    requires { ⌜ at + 6 ≤ length (now out) ⌝ }
-    ensures { λ r. ⌜ Lent r ⌝ }
-{
-    text::line_text(
-        out[at],
-        out[at + 1],
-        out[at + 2],
-        out[at + 3],
-        out[at + 4],
-        out[at + 5],
-    )
-}
-
 // Prints the first n operations of the words.
 fn print_list(out: &[u32], n: u32) {
     let mut at: usize = 0;
@@ -36,7 +22,7 @@ fn print_list(out: &[u32], n: u32) {
         if out.len() - at < 6 {
             return;
         }
-        print(line_at(out, at));
+        print(text::line_at(out, at));
         at += 6;
         i += 1;
     }
@@ -57,10 +43,10 @@ fn print_answer(a: Answer, out: &[u32]) {
 
 // One byte more is read than a sheet may have, so that a longer one is seen.
 fn main() {
-    let mut file = [0u8; 16385];
+    let mut file = [0u8; BYTES + 1];
     let n = io::read_full(0, &mut file);
-    let mut work = [0u32; 16384];
-    let mut out = [0u32; 16384];
+    let mut work = [0u32; WORK];
+    let mut out = [0u32; WORK];
     let a = builder::compile_mir(&file[..n], &mut work, &mut out);
     print_answer(a, &out);
 }

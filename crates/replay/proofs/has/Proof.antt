@@ -12,20 +12,9 @@ Inv-loop all at s i₀ i = (i ≤ length s) × (at + length s ≤ length all)
 abbrev μ-loop : tie.MeasureT-loop
 μ-loop all at s i₀ i = length s - i
 
-returns : tie.Need-returns Inv-loop μ-loop
-returns c = λ e. absurd (false≢true e)
-
-returns-2 : tie.Need-returns-2 Inv-loop μ-loop
-returns-2 c = λ e. absurd (false≢true e)
-
 pub has-spec : {M : Type 1} → statement M
 has-spec =
     tie.close
-    (tie.spec
-    Inv-loop
-    μ-loop
-    (λ c. search needs)
-    returns
-    (λ c. search needs) (λ c. search needs) (λ c. search needs) (λ c. search needs)
-    returns-2
+    (tie.spec Inv-loop μ-loop (λ c. search needs) (λ c e. absurd (false≢true e)) (λ c. search needs)
+    (λ c. search needs) (λ c. search needs) (λ c. search needs) (λ c e. absurd (false≢true e))
     (λ c. search needs) (λ c. search needs) (λ c. search needs) (λ c. search needs))

@@ -4,13 +4,8 @@ use borrow.Author.Needs.{needs}
 use Rattle.replay.proofs.past.Statement.{statement}
 use Rattle.replay.proofs.past.Tie as tie
 
-returns : tie.Need-returns
-returns c = omega (arith, c .before .has .ensures (c .if1 .taken))
-
 pub past-spec : {M : Type 1} → statement M
 past-spec =
     tie.close
-    (tie.spec
-    (λ c κs. search needs) (λ c. search needs)
-    returns
-    (λ c. search needs))
+    (tie.spec (λ c κs. search needs) (λ c. search needs)
+    (λ c. omega (arith, c .before .has .ensures (c .if1 .taken))) (λ c. search needs))

@@ -14,8 +14,5 @@ abbrev μ-loop : tie.MeasureT-loop
 pub past-comments-spec : {M : Type 1} → statement M
 past-comments-spec =
     tie.close
-    (tie.spec
-    Inv-loop
-    μ-loop
-    (λ c. search needs) (λ c. search needs) (λ c. search needs) (λ c κs. search needs)
+    (tie.spec Inv-loop μ-loop (λ c. search needs) (λ c. search needs) (λ c. search needs) (λ c κs. search needs)
     (λ c. search needs) (λ c. search needs) (λ c. search needs))

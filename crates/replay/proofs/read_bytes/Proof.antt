@@ -28,13 +28,6 @@ returns-2 c = (search needs, (search needs, sym (length-take-le _ _ (c .before .
 pub read-bytes-spec : {M : Type 1} → statement M
 read-bytes-spec =
     tie.close
-    (tie.spec
-    Inv-loop
-    μ-loop
-    (λ c. search needs) (λ c κs. search needs) (λ c. search needs)
-    returns
-    (λ c. search needs) (λ c. search needs) (λ c. search needs) (λ c. search needs)
-    (λ c. search needs)
-    loop-again
-    (λ c. search needs)
-    returns-2)
+    (tie.spec Inv-loop μ-loop (λ c. search needs) (λ c κs. search needs) (λ c. search needs) returns
+    (λ c. search needs) (λ c. search needs) (λ c. search needs) (λ c. search needs) (λ c. search needs)
+    loop-again (λ c. search needs) returns-2)

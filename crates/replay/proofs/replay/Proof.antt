@@ -18,11 +18,6 @@ loop-again c = ⊎-elim (λ w. search needs) (λ w. search needs) (c .before .be
 pub replay-spec : {M : Type 1} → statement M
 replay-spec =
     tie.close
-    (tie.spec
-    Inv-loop
-    μ-loop
-    (λ c κs. search needs) (λ c. search needs) (λ c. search needs) (λ c κs. search needs)
-    (λ c. search needs) (λ c κs. search needs) (λ c κs. search needs) (λ c κs. search needs)
-    (λ c. search needs)
-    loop-again
-    (λ c κs. search needs) (λ c. search needs))
+    (tie.spec Inv-loop μ-loop (λ c κs. search needs) (λ c. search needs) (λ c. search needs)
+    (λ c κs. search needs) (λ c. search needs) (λ c κs. search needs) (λ c κs. search needs)
+    (λ c κs. search needs) (λ c. search needs) loop-again (λ c κs. search needs) (λ c. search needs))

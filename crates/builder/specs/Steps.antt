@@ -1,0 +1,61 @@
+-- The two steps of an answer in code: trimmed statements as rows, and then their list.
+use mathlib.Core.Path.{_≡_}
+use Prim.Native.Nat.{ℕ, _<_, _≤_}
+use mathlib.Core.List.{List}
+use lib.ListN.{length, getD}
+use Rattle.limits.specs.Limits.{indexEnd, rowLimit, temporaryLimit}
+use Rattle.header.specs.declared.Header.{Header}
+use Rattle.header.specs.Settings.{headerOf}
+use Rattle.definitions.specs.Statement.{Statement}
+use Rattle.definitions.specs.Sheet.{got, bad}
+use Rattle.definitions.specs.Answer.{temporary, compiled, judged}
+use Rattle.node.specs.Nodes.{Table}
+use Rattle.statement.specs.declared.State.{State}
+use Rattle.statement.specs.Rows.{rowsFrom, statementsOf}
+use Rattle.statement.specs.Rowing.{All, OnRoot, NumberedBelow}
+use Rattle.reader.specs.Reads.{SheetRead}
+use Rattle.builder.specs.declared.Answer.{Answer}
+use Rattle.builder.specs.declared.Step.{Step}
+use Rattle.builder.specs.declared.Step.the-variants.{Trimmed, Refused}
+use Rattle.builder.specs.Compiled.{operationsOf, Gives}
+
+-- a step and a first temporary that pass check 3
+pub record StepInRange (h : Header) : Type 0 where
+  pub steps : 0 < h .step
+  pub short : h .step ≤ 8
+  pub low : h .first < indexEnd
+
+-- the statements of the first rows
+abbrev pub rowsSay : (file ws ms rs : List ℕ) → State → List Statement
+rowsSay file ws ms rs s = statementsOf (temporary file) ws ms (rowsFrom rs 0 (s .count))
+
+-- rows that can be emitted: their roots are nodes, their temporaries were given out
+pub record Listable (ws ms rs : List ℕ) (s : State) : Type 0 where
+  pub nodes : ℕ
+  pub table : Table ws nodes
+  pub few : s .count ≤ rowLimit
+  pub low : s .next ≤ temporaryLimit
+  pub small : (j : ℕ) → getD ms j 0 ≤ s .next
+  pub named : All (NumberedBelow (s .next)) (rowsFrom rs 0 (s .count))
+  pub placed : All (OnRoot (λ i. i < nodes)) (rowsFrom rs 0 (s .count))
+
+-- the first step is the definition's, of each file whose sheet stands in the words and rows
+unfoldable pub TrimsTo : (h : Header) (ws rows : List ℕ) (n : ℕ) (ms rs : List ℕ) → Step → Type 0
+TrimsTo h ws rows n ms rs (Trimmed s) =
+    Listable ws ms rs s
+    × ((file : List ℕ) → h ≡ headerOf file → SheetRead file ws rows n →
+    compiled file ≡ got (rowsSay file ws ms rs s) (s .next))
+TrimsTo h ws rows n ms rs (Refused k) = (file : List ℕ) → h ≡ headerOf file → SheetRead file ws rows n → compiled file ≡ bad k
+
+-- so is the second, of the statements that the rows say
+unfoldable pub ListsTo : (h : Header) (ws ms rs : List ℕ) (s : State) (out out′ : List ℕ) → Answer → Type 0
+ListsTo h ws ms rs s out out′ r =
+    (file : List ℕ) → h ≡ headerOf file →
+    let step = got (rowsSay file ws ms rs s) (s .next) in
+    Gives (judged file (length out) step) (operationsOf file step) out out′ r
+
+-- and both
+unfoldable pub CompilesTo : (h : Header) (ws rows : List ℕ) (n : ℕ) (out out′ : List ℕ) → Answer → Type 0
+CompilesTo h ws rows n out out′ r =
+    (file : List ℕ) → h ≡ headerOf file → SheetRead file ws rows n →
+    Gives (judged file (length out) (compiled file)) (operationsOf file (compiled file)) out out′ r
