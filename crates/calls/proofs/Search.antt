@@ -94,7 +94,7 @@ module _ {ws ms : List ℕ} {i : ℕ} {r : Row} {m : ℕ} where
 -- ---- so many rows, looked at from the first on
 
 -- what is found among the rows from row k on is found among all
-pub record Searched (ws ms rs : List ℕ) (i count k : ℕ) : Type 0 where
+pub record RowsSearched (ws ms rs : List ℕ) (i count k : ℕ) : Type 0 where
   pub left : CallSought ws i (rowsFrom rs k (count - k))
   pub since : (m : ℕ) → CallFound true ws ms i (rowsFrom rs k (count - k)) m → CallFound true ws ms i (rowsFrom rs 0 count) m
 
@@ -102,14 +102,14 @@ module _ (ws ms rs : List ℕ) (i count : ℕ) where
   pub search-off : {sharing : Bool} → sharing ≡ false → CallFound sharing ws ms i (rowsFrom rs 0 count) 0
   search-off e = rw e record { mark = λ next h. omega arith; is = λ temporary f. refl }
 
-  pub search-starts : CallSought ws i (rowsFrom rs 0 count) → Searched ws ms rs i count 0
+  pub search-starts : CallSought ws i (rowsFrom rs 0 count) → RowsSearched ws ms rs i count 0
   search-starts s = let e : count - 0 ≡ count = omega arith in record { left = rw e s; since = λ m h. rw e at h }
 
-  module _ {k : ℕ} {row : Row} (searched : Searched ws ms rs i count k) (l : k < count) (u : row ≡ rowAt rs k) where
+  module _ {k : ℕ} {row : Row} (searched : RowsSearched ws ms rs i count k) (l : k < count) (u : row ≡ rowAt rs k) where
     pub search-asks : CallSought ws i (row ∷ [])
     search-asks = rw u (sought-first (rw (rows-left rs count k l) at (searched .left)))
 
-    pub search-goes-on : {m : ℕ} → m ≡ 0 → CallFound true ws ms i (row ∷ []) m → Searched ws ms rs i count (k + 1)
+    pub search-goes-on : {m : ℕ} → m ≡ 0 → CallFound true ws ms i (row ∷ []) m → RowsSearched ws ms rs i count (k + 1)
     search-goes-on e here =
         record {
           left = sought-rest (rw (rows-left rs count k l) at (searched .left));
@@ -120,7 +120,7 @@ module _ (ws ms rs : List ℕ) (i count : ℕ) where
         CallFound sharing ws ms i (rowsFrom rs 0 count) m
     search-finds {sharing} {m} on e here = rw on (searched .since m (rw (rows-left rs count k l) (found-here _ e (rw u at here))))
 
-  pub search-ends : {sharing : Bool} {k : ℕ} → sharing ≡ true → count ≤ k → Searched ws ms rs i count k →
+  pub search-ends : {sharing : Bool} {k : ℕ} → sharing ≡ true → count ≤ k → RowsSearched ws ms rs i count k →
       CallFound sharing ws ms i (rowsFrom rs 0 count) 0
   unfolding seek statementsOf rowsFrom
   search-ends {sharing} {k} on l searched =

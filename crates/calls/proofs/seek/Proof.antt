@@ -3,12 +3,12 @@ use Prim.Native.Nat.{_≤_, _-_}
 use borrow.Author.Needs.{needs}
 use borrow.Author.Tests.{not-true, not-false}
 use native.Mathlib.Omega.{arith}
-use Rattle.calls.proofs.Search.{Searched, search-off, search-starts, search-asks, search-goes-on, search-finds, search-ends}
+use Rattle.calls.proofs.Search.{RowsSearched, search-off, search-starts, search-asks, search-goes-on, search-finds, search-ends}
 use Rattle.calls.proofs.seek.Statement.{statement}
 use Rattle.calls.proofs.seek.Tie as tie
 
 abbrev Inv-loop : tie.InvT-loop
-Inv-loop ws ms rs i sharing count k₀ k = (k ≤ count) × Searched ws ms rs i count k
+Inv-loop ws ms rs i sharing count k₀ k = (k ≤ count) × RowsSearched ws ms rs i count k
 
 abbrev μ-loop : tie.MeasureT-loop
 μ-loop ws ms rs i sharing count k₀ k = count - k
