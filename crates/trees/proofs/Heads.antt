@@ -3,8 +3,7 @@ use Prim.Native.Nat.{ℕ, zero, suc, _-_, _<_}
 use native.Mathlib.Omega.{arith}
 use mathlib.Core.Bool.{Bool, true, false, cond, _&&_}
 use mathlib.Core.List.{List}
-use mathlib.Core.Logic.{_≢_}
-use mathlib.Core.Path.{_≡_, refl, sym, ap, ap₂, _∙_}
+use mathlib.Core.Path.{_≡_, refl, sym, ap, _∙_}
 use lib.ListN.{length}
 use lib.Dec.{ltb, leb}
 use borrow.Author.Tests.{lt-ltb, ltb-true}
@@ -15,7 +14,7 @@ use Rattle.places.specs.declared.Head.{Head}
 use Rattle.places.specs.declared.Head.the-variants.{Const, Var, Over1, Over2, Refused}
 use Rattle.places.specs.Heads.{headAt, headTree}
 use Rattle.places.proofs.Heads.{by-test, tag-head}
-use Rattle.trees.specs.Reads.{withinLimits, limitOf, refusalOf, earlierOf, nodeHead}
+use Rattle.trees.specs.Reads.{withinLimits, limitedHead, earlierHead, nodeHead}
 
 -- a head that is not refused
 abbrev pub HeadKept : Head → Type 0
@@ -32,41 +31,17 @@ kept-passes true true false h k = absurd k
 kept-passes true false c h k = absurd k
 kept-passes false b c h k = absurd k
 
--- the first check that refuses says the number
-some-earlier : (b : Bool) (h : Head) {k : ℕ} → k ≡ earlierOf (cond b 0 6) (refusalOf h) → k ≢ 0 → Refused k ≡ cond b h (Refused 6)
-some-earlier true (Const i end) e some = absurd (some e)
-some-earlier true (Var p end) e some = absurd (some e)
-some-earlier true (Over1 o end) e some = absurd (some e)
-some-earlier true (Over2 o end) e some = absurd (some e)
-some-earlier true (Refused j) e some = ap Refused e
-some-earlier false h e some = ap Refused e
-
--- where none refuses, what was read stays
-none-earlier : (b : Bool) (h : Head) → earlierOf (cond b 0 6) (refusalOf h) ≡ 0 → h ≡ cond b h (Refused 6)
-none-earlier true h e = refl
-none-earlier false h e = absurd (omega (arith, e))
-
--- a head that was read, and the first of two refusals, answer for a node
-pub record HeadChecked (h : Head) (k : ℕ) (answer : Head) : Type 0 where
-  pub kept : k ≡ 0 → h ≡ answer
-  pub refused : k ≢ 0 → Refused k ≡ answer
-
--- at a known tag
-module _ (first : ℕ) (s : List ℕ) (at n left : ℕ) (inside : at < length s)
-    (tagged : (leb 1 (byte s at) && leb (byte s at) lastTag) ≡ true) {h : Head} (read : h ≡ headAt first s at)
-    {k past own : ℕ} (number : k ≡ earlierOf past own) (limited : past ≡ limitOf left n) (own-is : own ≡ refusalOf h) where
-  checked : k ≡ earlierOf (limitOf left n) (refusalOf h)
-  checked = number ∙ ap₂ (λ (x y : ℕ). earlierOf x y) limited own-is
-
-  at-tag : cond (withinLimits left n) h (Refused 6) ≡ nodeHead first left s at n
-  at-tag = rw (lt-ltb at (length s) inside, tagged) (ap (λ (x : Head). cond (withinLimits left n) x (Refused 6)) read)
-
-  pub head-checked : HeadChecked h k (nodeHead first left s at n)
-  head-checked =
-      record {
-        kept = λ none. none-earlier (withinLimits left n) h (sym checked ∙ none) ∙ at-tag;
-        refused = λ some. some-earlier (withinLimits left n) h checked some ∙ at-tag;
-      }
+-- the limits before what was read under them
+pub limits-first : (left n : ℕ) (h : Head) → earlierHead (limitedHead left n h) h ≡ limitedHead left n h
+limits-first left n h = go (withinLimits left n) h
+  where
+    go : (b : Bool) (h : Head) → earlierHead (cond b h (Refused 6)) h ≡ cond b h (Refused 6)
+    go true (Const k end) = refl
+    go true (Var p end) = refl
+    go true (Over1 o end) = refl
+    go true (Over2 o end) = refl
+    go true (Refused k) = refl
+    go false h = refl
 
 module _ (first : ℕ) (s : List ℕ) (at n left : ℕ) where
   abbrev below : ℕ → TreeReader
