@@ -1,12 +1,12 @@
--- `replay::read_bytes` meets its contract: it stays within the vectors and the file.
+-- `vectors::read_bytes` meets its contract: it stays within the vectors and the file.
 use Prim.Native.Nat.{_≤_, _-_}
 use mathlib.Core.Path.{_≡_, sym}
 use native.Mathlib.Omega.{arith}
 use borrow.Author.Needs.{needs}
 use lib.ListN.{length, length-set}
 use lib.Seq.{length-take-le}
-use Rattle.replay.proofs.read_bytes.Statement.{statement}
-use Rattle.replay.proofs.read_bytes.Tie as tie
+use Rattle.vectors.proofs.read_bytes.Statement.{statement}
+use Rattle.vectors.proofs.read_bytes.Tie as tie
 
 abbrev Inv-loop : tie.InvT-loop
 Inv-loop all at file₀ here₀ n₀ file here n = (length file ≡ length file₀) × (n ≤ length file) × (here ≤ length all)

@@ -1,8 +1,8 @@
--- `replay::past` meets its contract: it stays within the vectors.
+-- `vectors::past` meets its contract: it stays within the vectors.
 use native.Mathlib.Omega.{arith}
 use borrow.Author.Needs.{needs}
-use Rattle.replay.proofs.past.Statement.{statement}
-use Rattle.replay.proofs.past.Tie as tie
+use Rattle.vectors.proofs.past.Statement.{statement}
+use Rattle.vectors.proofs.past.Tie as tie
 
 pub past-spec : {M : Type 1} → statement M
 past-spec =

@@ -1,9 +1,9 @@
--- `replay::read_number` meets its contract: it stays within the vectors.
+-- `vectors::read_number` meets its contract: it stays within the vectors.
 use Prim.Native.Nat.{_≤_, _-_}
 use lib.ListN.{length}
 use borrow.Author.Needs.{needs}
-use Rattle.replay.proofs.read_number.Statement.{statement}
-use Rattle.replay.proofs.read_number.Tie as tie
+use Rattle.vectors.proofs.read_number.Statement.{statement}
+use Rattle.vectors.proofs.read_number.Tie as tie
 
 abbrev Inv-loop : tie.InvT-loop
 Inv-loop all at here₀ n₀ here n = (here ≤ length all) × (n ≤ 163850)

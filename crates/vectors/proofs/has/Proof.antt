@@ -1,10 +1,10 @@
--- `replay::has` meets its contract: it stays within the vectors.
+-- `vectors::has` meets its contract: it stays within the vectors.
 use Prim.Native.Nat.{_+_, _≤_, _-_}
 use mathlib.Core.Bool.{false≢true}
 use lib.ListN.{length}
 use borrow.Author.Needs.{needs}
-use Rattle.replay.proofs.has.Statement.{statement}
-use Rattle.replay.proofs.has.Tie as tie
+use Rattle.vectors.proofs.has.Statement.{statement}
+use Rattle.vectors.proofs.has.Tie as tie
 
 abbrev Inv-loop : tie.InvT-loop
 Inv-loop all at s i₀ i = (i ≤ length s) × (at + length s ≤ length all)

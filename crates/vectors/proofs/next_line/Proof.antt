@@ -1,9 +1,9 @@
--- `replay::next_line` meets its contract: it stays within the vectors.
+-- `vectors::next_line` meets its contract: it stays within the vectors.
 use Prim.Native.Nat.{_≤_, _-_}
 use lib.ListN.{length}
 use borrow.Author.Needs.{needs}
-use Rattle.replay.proofs.next_line.Statement.{statement}
-use Rattle.replay.proofs.next_line.Tie as tie
+use Rattle.vectors.proofs.next_line.Statement.{statement}
+use Rattle.vectors.proofs.next_line.Tie as tie
 
 abbrev Inv-loop : tie.InvT-loop
 Inv-loop all at i₀ i = (at ≤ i) × (i ≤ length all)
