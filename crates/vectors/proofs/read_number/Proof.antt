@@ -1,12 +1,13 @@
 -- `vectors::read_number` meets its contract: it stays within the vectors.
-use Prim.Native.Nat.{_≤_, _-_}
+use Prim.Native.Nat.{_+_, _-_, _*_, _≤_}
 use lib.ListN.{length}
 use borrow.Author.Needs.{needs}
+use Rattle.limits.specs.Limits.{workWords}
 use Rattle.vectors.proofs.read_number.Statement.{statement}
 use Rattle.vectors.proofs.read_number.Tie as tie
 
 abbrev Inv-loop : tie.InvT-loop
-Inv-loop all at here₀ n₀ here n = (here ≤ length all) × (n ≤ 163850)
+Inv-loop all at here₀ n₀ here n = (here ≤ length all) × (n ≤ 10 * workWords + 10)
 
 abbrev μ-loop : tie.MeasureT-loop
 μ-loop all at here₀ n₀ here n = length all - here
