@@ -1,0 +1,3 @@
+mod Standing
+mod Lines
+mod Written
