@@ -17,7 +17,7 @@ use Rattle.reader.specs.Reads.{SheetRead}
 use Rattle.builder.specs.declared.Answer.{Answer}
 use Rattle.builder.specs.declared.Step.{Step}
 use Rattle.builder.specs.declared.Step.the-variants.{Trimmed, Refused}
-use Rattle.builder.specs.Compiled.{operationsOf, Gives}
+use Rattle.builder.specs.Gives.{operationsOf, Gives}
 
 -- a step and a first temporary that pass check 3
 pub record StepInRange (h : Header) : Type 0 where
