@@ -1,0 +1,190 @@
+-- Sheets and their answers, every word as a number: every kind, Temp and Ret, every register field, every kind of place, unused
+-- words zero, and each refusal. The numbers are the second implementation's (model/pinned.py), and held to it by tests/vectors.
+use Prim.Native.Nat.{ℕ}
+use Prim.Native.String.{String}
+use mathlib.Core.Path.{_≡_, refl}
+use mathlib.Core.Bool.{Bool, true, _&&_}
+use mathlib.Core.List.{List, [], _∷_}
+use lib.Dec.{eqb}
+use Rattle.definitions.specs.Answer.{Answer}
+use Rattle.definitions.proofs.Computing.{sameNumbers, answerTo, _++_, allOf}
+
+-- is an answer the one of these numbers and this output
+abbrev pub isAnswer : Answer → (number ops temps : ℕ) → (output : List ℕ) → Bool
+isAnswer a number ops temps output =
+    eqb (a .number) number && eqb (a .ops) ops && eqb (a .temps) temps && sameNumbers (a .output) output
+
+-- is a sheet, with so many words of work and output lent, answered with these
+unfoldable pub answers : (sheet : String) (work room number ops temps : ℕ) → (output : List ℕ) → Bool
+unfolding answerTo sameNumbers
+answers sheet work room number ops temps output = isAnswer (answerTo sheet work room) number ops temps output
+
+abbrev pub table : List Bool
+table =
+    -- a choice, its condition on every kind of place, the larger side on either
+    answers ("0400010003000a0014000e002200150037001500010000050301020102010202000002ffff05010100020307000401020200"
+    ++ "0002020100020400050209000401020200000202010002010300")
+    16384 99 0 16 0
+    (1 ∷ 0 ∷ 1 ∷ 0 ∷ 0 ∷ 258 ∷  -- const r1 c258
+    2 ∷ 0 ∷ 0 ∷ 0 ∷ 0 ∷ 131072 ∷  -- load r0 m0
+    8 ∷ 0 ∷ 1 ∷ 1 ∷ 0 ∷ 197121 ∷  -- ifelse r1 r1 r0 p513
+    3 ∷ 0 ∷ 0 ∷ 1 ∷ 0 ∷ 65536 ∷  -- save r1 s0
+    2 ∷ 0 ∷ 1 ∷ 0 ∷ 0 ∷ 131072 ∷  -- load r1 m0
+    2 ∷ 0 ∷ 0 ∷ 0 ∷ 0 ∷ 131073 ∷  -- load r0 m1
+    7 ∷ 1 ∷ 1 ∷ 1 ∷ 0 ∷ 0 ∷  -- bi plus r1 r1 r0
+    2 ∷ 0 ∷ 0 ∷ 0 ∷ 0 ∷ 196615 ∷  -- load r0 p7
+    8 ∷ 0 ∷ 1 ∷ 0 ∷ 1 ∷ 65537 ∷  -- ifelse r1 r0 r1 s1
+    3 ∷ 0 ∷ 0 ∷ 1 ∷ 0 ∷ 196607 ∷  -- save r1 m65535
+    2 ∷ 0 ∷ 1 ∷ 0 ∷ 0 ∷ 131072 ∷  -- load r1 m0
+    2 ∷ 0 ∷ 0 ∷ 0 ∷ 0 ∷ 131073 ∷  -- load r0 m1
+    7 ∷ 1 ∷ 1 ∷ 1 ∷ 0 ∷ 0 ∷  -- bi plus r1 r1 r0
+    2 ∷ 0 ∷ 0 ∷ 0 ∷ 0 ∷ 65539 ∷  -- load r0 s3
+    8 ∷ 0 ∷ 1 ∷ 1 ∷ 0 ∷ 131081 ∷  -- ifelse r1 r1 r0 m9
+    3 ∷ 0 ∷ 0 ∷ 1 ∷ 0 ∷ 131076 ∷  -- save r1 m4
+    0 ∷ 0 ∷ 0 ∷ [])
+    -- square, cube, frac and x xor x, at register 1
+    ∷ answers ("0400010003000a00140014002800110039000f000201000402030a0401020200000202010001090002020003100309040102"
+    ++ "02000002020100020300030504010202000002020100")
+    16384 123 0 20 0
+    (2 ∷ 0 ∷ 1 ∷ 0 ∷ 0 ∷ 131072 ∷  -- load r1 m0
+    2 ∷ 0 ∷ 0 ∷ 0 ∷ 0 ∷ 131073 ∷  -- load r0 m1
+    7 ∷ 1 ∷ 1 ∷ 1 ∷ 0 ∷ 0 ∷  -- bi plus r1 r1 r0
+    7 ∷ 3 ∷ 254 ∷ 1 ∷ 1 ∷ 0 ∷  -- bi times t r1 r1
+    7 ∷ 3 ∷ 1 ∷ 1 ∷ 254 ∷ 0 ∷  -- bi times r1 r1 t
+    1 ∷ 0 ∷ 0 ∷ 0 ∷ 0 ∷ 9 ∷  -- const r0 c9
+    7 ∷ 2 ∷ 1 ∷ 1 ∷ 0 ∷ 0 ∷  -- bi minus r1 r1 r0
+    3 ∷ 0 ∷ 0 ∷ 1 ∷ 0 ∷ 131073 ∷  -- save r1 m1
+    2 ∷ 0 ∷ 1 ∷ 0 ∷ 0 ∷ 131072 ∷  -- load r1 m0
+    2 ∷ 0 ∷ 0 ∷ 0 ∷ 0 ∷ 131073 ∷  -- load r0 m1
+    7 ∷ 1 ∷ 1 ∷ 1 ∷ 0 ∷ 0 ∷  -- bi plus r1 r1 r0
+    7 ∷ 3 ∷ 1 ∷ 1 ∷ 1 ∷ 0 ∷  -- bi times r1 r1 r1
+    6 ∷ 13 ∷ 254 ∷ 1 ∷ 0 ∷ 0 ∷  -- uni floor t r1
+    7 ∷ 2 ∷ 1 ∷ 1 ∷ 254 ∷ 0 ∷  -- bi minus r1 r1 t
+    3 ∷ 0 ∷ 0 ∷ 1 ∷ 0 ∷ 131074 ∷  -- save r1 m2
+    2 ∷ 0 ∷ 1 ∷ 0 ∷ 0 ∷ 131072 ∷  -- load r1 m0
+    2 ∷ 0 ∷ 0 ∷ 0 ∷ 0 ∷ 131073 ∷  -- load r0 m1
+    7 ∷ 1 ∷ 1 ∷ 1 ∷ 0 ∷ 0 ∷  -- bi plus r1 r1 r0
+    7 ∷ 14 ∷ 1 ∷ 1 ∷ 1 ∷ 0 ∷  -- bi xor r1 r1 r1
+    3 ∷ 0 ∷ 0 ∷ 1 ∷ 0 ∷ 131075 ∷  -- save r1 m3
+    0 ∷ 0 ∷ 0 ∷ [])
+    -- rem through Ret, its sides in either order
+    ∷ answers ("0400010002000a00100013002300120001000004050202000004010202000002020100010100040504010202000002020100"
+    ++ "01ffff")
+    16384 111 0 18 0
+    (2 ∷ 0 ∷ 1 ∷ 0 ∷ 0 ∷ 131072 ∷  -- load r1 m0
+    2 ∷ 0 ∷ 0 ∷ 0 ∷ 0 ∷ 131073 ∷  -- load r0 m1
+    7 ∷ 1 ∷ 1 ∷ 1 ∷ 0 ∷ 0 ∷  -- bi plus r1 r1 r0
+    2 ∷ 0 ∷ 0 ∷ 0 ∷ 0 ∷ 131072 ∷  -- load r0 m0
+    7 ∷ 4 ∷ 255 ∷ 0 ∷ 1 ∷ 0 ∷  -- bi divide v r0 r1
+    6 ∷ 13 ∷ 255 ∷ 255 ∷ 0 ∷ 0 ∷  -- uni floor v v
+    7 ∷ 3 ∷ 255 ∷ 255 ∷ 1 ∷ 0 ∷  -- bi times v v r1
+    7 ∷ 2 ∷ 1 ∷ 0 ∷ 255 ∷ 0 ∷  -- bi minus r1 r0 v
+    3 ∷ 0 ∷ 0 ∷ 1 ∷ 0 ∷ 65536 ∷  -- save r1 s0
+    2 ∷ 0 ∷ 1 ∷ 0 ∷ 0 ∷ 131072 ∷  -- load r1 m0
+    2 ∷ 0 ∷ 0 ∷ 0 ∷ 0 ∷ 131073 ∷  -- load r0 m1
+    7 ∷ 1 ∷ 1 ∷ 1 ∷ 0 ∷ 0 ∷  -- bi plus r1 r1 r0
+    1 ∷ 0 ∷ 0 ∷ 0 ∷ 0 ∷ 65535 ∷  -- const r0 c65535
+    7 ∷ 4 ∷ 255 ∷ 1 ∷ 0 ∷ 0 ∷  -- bi divide v r1 r0
+    6 ∷ 13 ∷ 255 ∷ 255 ∷ 0 ∷ 0 ∷  -- uni floor v v
+    7 ∷ 3 ∷ 255 ∷ 255 ∷ 0 ∷ 0 ∷  -- bi times v v r0
+    7 ∷ 2 ∷ 1 ∷ 1 ∷ 255 ∷ 0 ∷  -- bi minus r1 r1 v
+    3 ∷ 0 ∷ 0 ∷ 1 ∷ 0 ∷ 65537 ∷  -- save r1 s1
+    0 ∷ 0 ∷ 0 ∷ [])
+    -- fused loads and constants, on either side
+    ∷ answers ("0402010002000a00100012002200180001000004030402020202010103000203020001010004010201050004040401020200"
+    ++ "0002020100010400")
+    16384 57 0 9 0
+    (2 ∷ 0 ∷ 0 ∷ 0 ∷ 0 ∷ 131330 ∷  -- load r0 m258
+    10 ∷ 2 ∷ 1 ∷ 0 ∷ 0 ∷ 3 ∷  -- constmath minus r1 r0 c3
+    9 ∷ 3 ∷ 1 ∷ 1 ∷ 0 ∷ 196610 ∷  -- loadmath times r1 r1 p2
+    3 ∷ 0 ∷ 0 ∷ 1 ∷ 0 ∷ 65536 ∷  -- save r1 s0
+    2 ∷ 0 ∷ 0 ∷ 0 ∷ 0 ∷ 131072 ∷  -- load r0 m0
+    9 ∷ 1 ∷ 1 ∷ 0 ∷ 0 ∷ 131073 ∷  -- loadmath plus r1 r0 m1
+    10 ∷ 4 ∷ 1 ∷ 1 ∷ 0 ∷ 4 ∷  -- constmath divide r1 r1 c4
+    9 ∷ 1 ∷ 1 ∷ 1 ∷ 0 ∷ 65541 ∷  -- loadmath plus r1 r1 s5
+    3 ∷ 0 ∷ 0 ∷ 1 ∷ 0 ∷ 65537 ∷  -- save r1 s1
+    0 ∷ 0 ∷ 0 ∷ [])
+    -- calls: a move to Left, an exchange, and moves both ways
+    ∷ answers ("0400030003000a001400110025000d003200250001000006ff03010401020200000202010001010007070202000002020100"
+    ++ "01020007010401020200000202010004030401020200000202010004010202020002020300")
+    16384 195 0 32 3
+    (2 ∷ 0 ∷ 1 ∷ 0 ∷ 0 ∷ 131072 ∷  -- load r1 m0
+    2 ∷ 0 ∷ 0 ∷ 0 ∷ 0 ∷ 131073 ∷  -- load r0 m1
+    7 ∷ 1 ∷ 1 ∷ 1 ∷ 0 ∷ 0 ∷  -- bi plus r1 r1 r0
+    6 ∷ 1 ∷ 1 ∷ 1 ∷ 0 ∷ 0 ∷  -- uni neg r1 r1
+    4 ∷ 0 ∷ 0 ∷ 1 ∷ 0 ∷ 0 ∷  -- move r0 r1
+    11 ∷ 255 ∷ 0 ∷ 1 ∷ 0 ∷ 0 ∷  -- call f255 1
+    3 ∷ 0 ∷ 0 ∷ 255 ∷ 0 ∷ 65546 ∷  -- save v s10
+    2 ∷ 0 ∷ 0 ∷ 0 ∷ 0 ∷ 65546 ∷  -- load r0 s10
+    3 ∷ 0 ∷ 0 ∷ 0 ∷ 0 ∷ 65536 ∷  -- save r0 s0
+    2 ∷ 0 ∷ 1 ∷ 0 ∷ 0 ∷ 131072 ∷  -- load r1 m0
+    2 ∷ 0 ∷ 0 ∷ 0 ∷ 0 ∷ 131073 ∷  -- load r0 m1
+    5 ∷ 0 ∷ 1 ∷ 0 ∷ 0 ∷ 0 ∷  -- swap r1 r0
+    11 ∷ 7 ∷ 0 ∷ 2 ∷ 0 ∷ 0 ∷  -- call f7 2
+    3 ∷ 0 ∷ 0 ∷ 255 ∷ 0 ∷ 65549 ∷  -- save v s13
+    2 ∷ 0 ∷ 0 ∷ 0 ∷ 0 ∷ 65549 ∷  -- load r0 s13
+    3 ∷ 0 ∷ 0 ∷ 0 ∷ 0 ∷ 65537 ∷  -- save r0 s1
+    2 ∷ 0 ∷ 2 ∷ 0 ∷ 0 ∷ 131072 ∷  -- load r2 m0
+    2 ∷ 0 ∷ 1 ∷ 0 ∷ 0 ∷ 131073 ∷  -- load r1 m1
+    7 ∷ 1 ∷ 2 ∷ 2 ∷ 1 ∷ 0 ∷  -- bi plus r2 r2 r1
+    2 ∷ 0 ∷ 1 ∷ 0 ∷ 0 ∷ 131074 ∷  -- load r1 m2
+    2 ∷ 0 ∷ 0 ∷ 0 ∷ 0 ∷ 131075 ∷  -- load r0 m3
+    7 ∷ 1 ∷ 1 ∷ 1 ∷ 0 ∷ 0 ∷  -- bi plus r1 r1 r0
+    7 ∷ 3 ∷ 2 ∷ 2 ∷ 1 ∷ 0 ∷  -- bi times r2 r2 r1
+    2 ∷ 0 ∷ 1 ∷ 0 ∷ 0 ∷ 131072 ∷  -- load r1 m0
+    2 ∷ 0 ∷ 0 ∷ 0 ∷ 0 ∷ 131073 ∷  -- load r0 m1
+    7 ∷ 1 ∷ 1 ∷ 1 ∷ 0 ∷ 0 ∷  -- bi plus r1 r1 r0
+    4 ∷ 0 ∷ 0 ∷ 1 ∷ 0 ∷ 0 ∷  -- move r0 r1
+    4 ∷ 0 ∷ 1 ∷ 2 ∷ 0 ∷ 0 ∷  -- move r1 r2
+    11 ∷ 1 ∷ 0 ∷ 2 ∷ 0 ∷ 0 ∷  -- call f1 2
+    3 ∷ 0 ∷ 0 ∷ 255 ∷ 0 ∷ 65552 ∷  -- save v s16
+    2 ∷ 0 ∷ 0 ∷ 0 ∷ 0 ∷ 65552 ∷  -- load r0 s16
+    3 ∷ 0 ∷ 0 ∷ 0 ∷ 0 ∷ 65538 ∷  -- save r0 s2
+    0 ∷ 0 ∷ 0 ∷ [])
+    -- 1: a word of work too few
+    ∷ answers "0400010001000a000c00070001000002020000"
+    16383 3 1 0 0
+    (0 ∷ 0 ∷ 0 ∷ [])
+    -- 2: seven bytes
+    ∷ answers "0400010000000a"
+    16384 3 2 0 0
+    (0 ∷ 0 ∷ 0 ∷ [])
+    -- 3: one scratch register
+    ∷ answers "0100010001000a000c00070001000002020000"
+    16384 3 3 0 0
+    (0 ∷ 0 ∷ 0 ∷ [])
+    -- 4: the pair is cut off
+    ∷ answers "0400010001000a000c0007"
+    16384 3 4 0 0
+    (0 ∷ 0 ∷ 0 ∷ [])
+    -- 5: a byte left over
+    ∷ answers "0400010001000a000c0008000100000202000000"
+    16384 3 5 0 0
+    (0 ∷ 0 ∷ 0 ∷ [])
+    -- 6: a formula of 65 levels
+    ∷ answers ("0400010001000a000c0087000100000301030103010301030103010301030103010301030103010301030103010301030103"
+    ++ "0103010301030103010301030103010301030103010301030103010301030103010301030103010301030103010301030103"
+    ++ "0103010301030103010301030103010301030103010301030103010301030103010301030103010301030102020000")
+    16384 3 6 0 0
+    (0 ∷ 0 ∷ 0 ∷ [])
+    -- 7: a temporary as destination
+    ∷ answers "0400010001000a000c000700010a0002020000"
+    16384 3 7 0 0
+    (0 ∷ 0 ∷ 0 ∷ [])
+    -- 8: two wide arguments
+    ∷ answers "0200010001000a000c00190001000007070401020200000202010004010202020002020300"
+    16384 3 8 0 0
+    (0 ∷ 0 ∷ 0 ∷ [])
+    -- 9: temporaries past the last index
+    ∷ answers "020001000100ffff0c00190001000004030401020200000202010004010202020002020300"
+    16384 3 9 0 0
+    (0 ∷ 0 ∷ 0 ∷ [])
+    -- 10: a word of output too few
+    ∷ answers "0400010001000a000c00070001000002020000"
+    16384 11 10 0 0
+    (0 ∷ 0 ∷ 0 ∷ 0 ∷ 0 ∷ 0 ∷ 0 ∷ 0 ∷ 0 ∷ 0 ∷ 0 ∷ [])
+    ∷ []
+
+pub words-are-pinned : allOf table ≡ true
+unfolding allOf answers _++_
+words-are-pinned = refl
