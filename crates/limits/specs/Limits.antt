@@ -1,5 +1,5 @@
 -- Limits, by name: document 01, 'The sheet and the list'.
-use Prim.Native.Nat.{ℕ, _+_, _-_, _*_}
+use Prim.Native.Nat.{ℕ, _+_, _-_, _*_, _/_}
 
 -- check 1: 'fewer than 16,384 32-bit words' of lent work
 abbrev pub workWords : ℕ
@@ -50,3 +50,10 @@ temporaryLimit = nodeLimit + rowLimit
 -- operations of a node at most
 abbrev pub opsPerNode : ℕ
 opsPerNode = 4
+
+-- bytes of a printed line at most, and of an answer's text: its first line, and a line for each six words of output
+abbrev pub lineLimit : ℕ
+lineLimit = 128
+
+abbrev pub textLimit : ℕ
+textLimit = lineLimit * (workWords / 6 + 1)

@@ -28,6 +28,11 @@ pub const INDEXES: u32 = 65536;
 // Rows of statements: the sheet's own, and one for each node's mark.
 pub const ROWS: usize = STATEMENTS + NODES;
 
+// The bytes of a printed line, and of an answer's text: its first line, and a line for each six words of output.
+pub const LINE: usize = 128;
+
+pub const TEXT: usize = LINE * (WORK / 6 + 1);
+
 // A word for each node, or for each of as many temporaries.
 pub type PerNode = [u32; NODES];
 

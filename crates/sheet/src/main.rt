@@ -1,52 +1,36 @@
 // Reads a sheet from standard input and prints its list, or the number of its refusal.
 use builder::Answer;
 use limits::BYTES;
+use limits::TEXT;
 use limits::WORK;
-ghost use Prim.Native.Nat.{_+_};
-ghost use Rattle.text.specs.Line.{Lent};
+ghost use mathlib.Core.Path.{_≡_};
+ghost use Prim.Native.Nat.{_≤_};
+ghost use lib.ListN.{length, take};
+ghost use Rattle.io.specs.Counts.{Counts};
+ghost use Rattle.limits.specs.Limits.{workWords, textLimit};
+ghost use Rattle.definitions.specs.Answer.{answer};
+ghost use Rattle.definitions.specs.Text.{answerText};
 
-// Prints the text of a line.
-fn print(l: text::Line)
-    requires { ⌜ Lent l ⌝ }
+// Writes the text of the answer to a file at the start of a text, and answers its length.
+fn answered(file: &[u8], text: &mut [u8]) -> usize
+    requires { ⌜ textLimit ≤ length (now text) ⌝ }
+    ensures { λ r. ⌜ take r (now (text .exit)) ≡ answerText (answer (now (file .entry)) workWords workWords) ⌝ }
+    ensures { λ r. ⌜ Counts r (now (text .exit)) ⌝ }
 {
-    let bytes = l.bytes;
-    let n = l.len;
-    io::write_all(1, &bytes[..n]);
-}
-
-// Prints the first n operations of the words.
-fn print_list(out: &[u32], n: u32) {
-    let mut at: usize = 0;
-    let mut i: u32 = 0;
-    while i < n {
-        if out.len() - at < 6 {
-            return;
-        }
-        print(text::line_at(out, at));
-        at += 6;
-        i += 1;
-    }
-}
-
-// Prints an answer, and the list where there is one.
-fn print_answer(a: Answer, out: &[u32]) {
+    let mut work = [0u32; WORK];
+    let mut out = [0u32; WORK];
+    let a = builder::compile_mir(file, &mut work, &mut out);
     match a {
-        Answer::Listed(n, t) => {
-            print(text::ops_text(n, t));
-            print_list(out, n);
-        }
-        Answer::Refused(k) => {
-            print(text::refused_text(k as u32));
-        }
+        Answer::Listed(n, t) => text::answer_text(0, n, t, &out, text),
+        Answer::Refused(k) => text::answer_text(k as u32, 0, 0, &out, text),
     }
 }
 
 // One byte more is read than a sheet may have, so that a longer one is seen.
 fn main() {
     let mut file = [0u8; BYTES + 1];
+    let mut text = [0u8; TEXT];
     let n = io::read_full(0, &mut file);
-    let mut work = [0u32; WORK];
-    let mut out = [0u32; WORK];
-    let a = builder::compile_mir(&file[..n], &mut work, &mut out);
-    print_answer(a, &out);
+    let m = answered(&file[..n], &mut text);
+    io::write_all(1, &text[..m]);
 }

@@ -7,8 +7,9 @@ use native.Mathlib.Omega.{arith}
 use mathlib.Core.List.{List, [], _∷_, _++_, append-assoc}
 use mathlib.Core.Path.{_≡_, refl, sym, ap, ap₂, _∙_}
 use lib.ListN.{length, getD, take, drop, set, replicate, length-append, length-replicate, List·getD-eq-default}
-use lib.Seq.{sets, sets-eq, take-suc, take-all, length-take-le}
+use lib.Seq.{sets, sets-eq, take-suc, take-all, take-at, length-take-le}
 use borrow.Author.Tests.{lt-ltb, le-ltb, ne-eqb}
+use Rattle.limits.specs.Limits.{lineLimit}
 use Rattle.symbol.specs.declared.Loc.{Loc}
 use Rattle.operation.specs.Names.{bytes, named}
 use Rattle.definitions.specs.Operations.{Temp, Ret}
@@ -18,10 +19,13 @@ use Rattle.text.specs.Line.{lineOf, added, Adds, Lent, Prints}
 
 -- ---- one text after another
 
-sets-after : (us vs ws : List ℕ) (i : ℕ) → sets (sets ws i us) (i + length us) vs ≡ sets ws i (us ++ vs)
+pub sets-after : (us vs ws : List ℕ) (i : ℕ) → sets (sets ws i us) (i + length us) vs ≡ sets ws i (us ++ vs)
 sets-after [] vs ws i = ap (λ (k : ℕ). sets ws k vs) (add-zero i)
 sets-after (u ∷ us) vs ws i =
     let e : i + suc (length us) ≡ suc i + length us = omega arith in rw e (sets-after us vs (set ws i u) (suc i))
+
+pub sets-first : (us ws : List ℕ) → length us ≤ length ws → take (length us) (sets ws 0 us) ≡ us
+sets-first us ws h = ap (take (length us)) (sets-eq us ws 0 (omega arith)) ∙ take-at us _ (length us) refl
 
 abbrev made : List ℕ → ℕ → Line
 made bs n = record { bytes = bs; len = n }
@@ -122,20 +126,20 @@ over-zeros xs n h =
     sets-eq xs (replicate n 0) 0 (omega arith)
     ∙ ap (λ (m : List ℕ). xs ++ m) (ap (λ (k : ℕ). drop k (replicate n 0)) (zero-add (length xs)) ∙ drop-zeros (length xs) n)
 
-line-long : (xs : List ℕ) → length xs ≤ 128 → length (lineOf xs .bytes) ≡ 128
-line-long xs h = omega (arith, length-append xs (replicate (128 - length xs) 0), length-replicate {A = ℕ} (128 - length xs) 0)
+line-long : (xs : List ℕ) → length xs ≤ lineLimit → length (lineOf xs .bytes) ≡ lineLimit
+line-long xs h = omega (arith, length-append xs (replicate (lineLimit - length xs) 0), length-replicate {A = ℕ} (lineLimit - length xs) 0)
 
 line-lent : (r : Line) → r .len ≤ length (r .bytes) → Lent r
 line-lent r h = record { inside = h; counted = sym (length-take-le (r .len) (r .bytes) h) }
 
 -- what is written after a blank line is the whole text
-pub prints : {l r : Line} {xs : List ℕ} {k : ℕ} → l ≡ lineOf [] → k ≤ 128 → Adds l xs k r → Prints r xs
+pub prints : {l r : Line} {xs : List ℕ} {k : ℕ} → l ≡ lineOf [] → k ≤ lineLimit → Adds l xs k r → Prints r xs
 unfolding added
 prints {l} {r} {xs} {k} e h p =
     let w : r ≡ added (lineOf []) xs = p .whole ∙ ap (λ (x : Line). added x xs) e in
     let n : r .len ≡ 0 + length xs = ap (λ (x : Line). x .len) w in
     let z : l .len ≡ 0 = ap (λ (x : Line). x .len) e in
-    let f : length xs ≤ 128 = omega (arith, p .more) in
-    let o : r ≡ lineOf xs = w ∙ ap₂ made (over-zeros xs 128 f) (zero-add (length xs)) in
-    let b : length (r .bytes) ≡ 128 = ap (λ (x : Line). length (x .bytes)) o ∙ line-long xs f in
+    let f : length xs ≤ lineLimit = omega (arith, p .more) in
+    let o : r ≡ lineOf xs = w ∙ ap₂ made (over-zeros xs lineLimit f) (zero-add (length xs)) in
+    let b : length (r .bytes) ≡ lineLimit = ap (λ (x : Line). length (x .bytes)) o ∙ line-long xs f in
     record { whole = o; within = omega arith; lent = line-lent r (omega arith) }

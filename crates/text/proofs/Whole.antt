@@ -82,11 +82,25 @@ answer-text-refused a ne = go (a .number) ne
     go zero z = absurd (z refl)
     go (suc n) z = refl
 
--- every answer's output has them
-either-roomy : {a b : Answer} (t : Bool) → Roomy a → Roomy b → Roomy (cond t a b)
-either-roomy true p q = p
-either-roomy false p q = q
+-- what holds of every refusal and every acceptance holds of every answer
+module _ (P : Answer → Type 0) (refused : (k room : ℕ) → P (refusal k room))
+    (accepted : (list : List Op) (temps room : ℕ) → P (acceptance list temps room)) where
+  either-by : {a b : Answer} (t : Bool) → P a → P b → P (cond t a b)
+  either-by true p q = p
+  either-by false p q = q
 
+  judged-by : (file : List ℕ) (room : ℕ) (r : Read (List Statement)) → P (judged file room r)
+  judged-by file room (bad k) = refused k room
+  judged-by file room (got ss temps) =
+      either-by (ltb indexEnd (firstTemporary file + step file * temps)) (refused 9 room)
+      (either-by (ltb room (6 * length (emitAll (fused file) ss))) (refused 10 room)
+      (accepted (emitAll (fused file) ss) temps room))
+
+  pub answer-by : (file : List ℕ) (work room : ℕ) → P (answer file work room)
+  unfolding answer
+  answer-by file work room = either-by (ltb work workWords) (refused 1 room) (judged-by file room (compiled file))
+
+-- every answer's output has the words of its operations
 refusal-roomy : (k room : ℕ) → Roomy (refusal k room)
 refusal-roomy k room = record { room = omega arith }
 
@@ -94,13 +108,5 @@ acceptance-roomy : (list : List Op) (temps room : ℕ) → Roomy (acceptance lis
 acceptance-roomy list temps room =
     record { room = omega (arith, length-append (listWords list) (replicate (room - 6 * length list) 0), list-words-length list) }
 
-judged-roomy : (file : List ℕ) (room : ℕ) (r : Read (List Statement)) → Roomy (judged file room r)
-judged-roomy file room (bad k) = refusal-roomy k room
-judged-roomy file room (got ss temps) =
-    either-roomy (ltb indexEnd (firstTemporary file + step file * temps)) (refusal-roomy 9 room)
-    (either-roomy (ltb room (6 * length (emitAll (fused file) ss))) (refusal-roomy 10 room)
-    (acceptance-roomy (emitAll (fused file) ss) temps room))
-
 pub answer-roomy : (file : List ℕ) (work room : ℕ) → Roomy (answer file work room)
-unfolding answer
-answer-roomy file work room = either-roomy (ltb work workWords) (refusal-roomy 1 room) (judged-roomy file room (compiled file))
+answer-roomy = answer-by Roomy refusal-roomy acceptance-roomy

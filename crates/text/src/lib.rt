@@ -1,19 +1,22 @@
-// The printed text, a line at a time.
+// The printed text, a line at a time, and that of a whole answer.
+use limits::LINE;
 use operation::Name;
 use symbol::Loc;
 ghost use mathlib.Core.Path.{_≡_};
 ghost use mathlib.Core.List.{[], _∷_, _++_};
-ghost use Prim.Native.Nat.{_+_, _≤_, _<_};
+ghost use Prim.Native.Nat.{_+_, _*_, _≤_, _<_};
 ghost use lib.ListN.{length};
+ghost use Rattle.limits.specs.Limits.{lineLimit};
 ghost use Rattle.symbol.specs.Place.{wordPlace};
 ghost use Rattle.operation.specs.Names.{unaryName, binaryName, spelled};
 ghost use Rattle.definitions.specs.Operations.{opCall, wordsOp};
 ghost use Rattle.definitions.specs.Text.{decimalBelow, decimal, registerText, placeText, constantText, opText};
-ghost use Rattle.text.specs.Line.{lineOf, Adds, Prints, lineText, lineFrom, countsText, refusedText};
+ghost use Rattle.text.specs.Line.{lineOf, Adds, Lent, Prints, lineText, lineFrom, countsText, refusedText};
+ghost use Rattle.text.specs.Line.{textOf, linesOf, answerOf, Writes, WritesAnswer};
 
-// A line: 128 bytes, and how many of them are its text.
+// A line: LINE bytes, and how many of them are its text.
 pub struct Line {
-    pub bytes: [u8; 128],
+    pub bytes: [u8; LINE],
     pub len: usize,
 }
 
@@ -22,14 +25,14 @@ fn blank() -> Line
     ensures { λ r. ⌜ (r ≡ lineOf []) × (r .len ≡ 0) ⌝ }
 {
     Line {
-        bytes: [0; 128],
+        bytes: [0; LINE],
         len: 0,
     }
 }
 
 // The line with a byte after it.
 fn put_byte(l: Line, b: u8) -> Line
-    requires { ⌜ l .len < 128 ⌝ }
+    requires { ⌜ l .len < lineLimit ⌝ }
     ensures { λ r. ⌜ Adds l (b ∷ []) 1 r ⌝ }
 {
     let mut r = l;
@@ -41,7 +44,7 @@ fn put_byte(l: Line, b: u8) -> Line
 
 // And with the bytes of s.
 fn put(l: Line, s: &[u8]) -> Line
-    requires { ⌜ l .len + length (now s) ≤ 128 ⌝ }
+    requires { ⌜ l .len + length (now s) ≤ lineLimit ⌝ }
     ensures { λ r. ⌜ Adds l (now (s .entry)) (length (now (s .entry))) r ⌝ }
 {
     let mut r = l;
@@ -55,7 +58,7 @@ fn put(l: Line, s: &[u8]) -> Line
 
 // A number of so many digits at most, the last of them last.
 fn put_digits(l: Line, digits: usize, n: u32) -> Line
-    requires { ⌜ l .len + digits ≤ 128 ⌝ }
+    requires { ⌜ l .len + digits ≤ lineLimit ⌝ }
     ensures { λ r. ⌜ Adds l (decimalBelow digits n) digits r ⌝ }
 {
     if digits == 0 {
@@ -199,7 +202,7 @@ fn line_text(kind: u32, code: u32, d: u32, s1: u32, s2: u32, place: u32) -> Line
 }
 
 // The line of the operation whose words begin at a place.
-pub fn line_at(out: &[u32], at: usize) -> Line
+fn line_at(out: &[u32], at: usize) -> Line
     requires { ⌜ at + 6 ≤ length (now out) ⌝ }
     ensures { λ r. ⌜ Prints r (lineFrom (now (out .entry)) at) ⌝ }
 {
@@ -214,7 +217,7 @@ pub fn line_at(out: &[u32], at: usize) -> Line
 }
 
 // The first line of an accepted sheet.
-pub fn ops_text(n: u32, t: u32) -> Line
+fn ops_text(n: u32, t: u32) -> Line
     ensures { λ r. ⌜ Prints r (countsText n t) ⌝ }
 {
     let ops = put_decimal(put(blank(), b"ops "), n);
@@ -223,8 +226,52 @@ pub fn ops_text(n: u32, t: u32) -> Line
 }
 
 // The only line of a refused one.
-pub fn refused_text(k: u32) -> Line
+fn refused_text(k: u32) -> Line
     ensures { λ r. ⌜ Prints r (refusedText k) ⌝ }
 {
     put(put_decimal(put(blank(), b"refused "), k), b"\n")
+}
+
+// Copies a line's text to a place of a text, and answers the place after it.
+fn put_line(text: &mut [u8], at: usize, l: Line) -> usize
+    requires { ⌜ Lent l ⌝ }
+    requires { ⌜ at + l .len ≤ length (now text) ⌝ }
+    ensures { λ r. ⌜ Writes (now (text .entry)) at (textOf l) (now (text .exit)) r ⌝ }
+{
+    let bytes = l.bytes;
+    let n = l.len;
+    let mut i = 0;
+    while i < n {
+        text[at + i] = bytes[i];
+        i += 1;
+    }
+    at + n
+}
+
+// And the lines of the first n operations of the words.
+fn put_lines(text: &mut [u8], at: usize, out: &[u32], n: usize) -> usize
+    requires { ⌜ 6 * n ≤ length (now out) ⌝ }
+    requires { ⌜ at + lineLimit * n ≤ length (now text) ⌝ }
+    ensures { λ r. ⌜ Writes (now (text .entry)) at (linesOf (now (out .entry)) n) (now (text .exit)) r ⌝ }
+{
+    let mut here = at;
+    let mut i = 0;
+    while i < n {
+        here = put_line(text, here, line_at(out, 6 * i));
+        i += 1;
+    }
+    here
+}
+
+// The whole text of an answer, at the start of a text, and its length.
+pub fn answer_text(number: u32, ops: u32, temps: u32, out: &[u32], text: &mut [u8]) -> usize
+    requires { ⌜ 6 * ops ≤ length (now out) ⌝ }
+    requires { ⌜ lineLimit * (ops + 1) ≤ length (now text) ⌝ }
+    ensures { λ r. ⌜ WritesAnswer (answerOf number ops temps (now (out .entry))) (now (text .entry)) (now (text .exit)) r ⌝ }
+{
+    if number != 0 {
+        return put_line(text, 0, refused_text(number));
+    }
+    let first = put_line(text, 0, ops_text(ops, temps));
+    put_lines(text, first, out, ops as usize)
 }
