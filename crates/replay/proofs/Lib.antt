@@ -1,0 +1,3 @@
+mod Zeros
+mod Recorded
+mod Counts
