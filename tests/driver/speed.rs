@@ -1,6 +1,8 @@
-//! The Rust's `compile_mir` and ours on the same sheets: nanoseconds a sheet, and how many times faster ours is.
+//! The Rust and ours on the same sheets: nanoseconds a sheet, and how many times faster ours is than the Rust's `compile_mir`
+//! alone, and than the Rust from the same bytes, which is the work that ours does.
 
 mod library;
+mod shapes;
 
 use std::hint::black_box;
 use std::process::ExitCode;
@@ -13,6 +15,7 @@ use oracle::series::{accepted, Set};
 use oracle::sheet::Sheet;
 
 use crate::library::compile;
+use crate::shapes::{nested_calls, shapes, worst, Shape};
 
 const WORDS: usize = 16_384;
 const SEED: u64 = 1;
@@ -22,6 +25,12 @@ const SIZES: [usize; 4] = [16, 64, 256, 1_024];
 const IN_A_SET: usize = 200;
 /// Each side is timed so often, in turns; the fastest turn counts, since others only add to a time.
 const TURNS: usize = 15;
+/// A shape's one sheet is compiled so often in a turn.
+const AGAIN: usize = 40;
+/// What no shape may pass, in times of the median sheet of its size, and growth where sheets or calls are four times as many.
+const MEDIANS: f64 = 5.0;
+const GROWTH: f64 = 4.5;
+const CALLS_GROWTH: f64 = 5.0;
 
 /// The words lent to every call.
 struct Lent {
@@ -42,6 +51,10 @@ struct Times {
 impl Times {
     fn ratio(&self) -> f64 {
         self.rust / self.ours
+    }
+
+    fn ratio_from_bytes(&self) -> f64 {
+        self.rust_from_bytes / self.ours
     }
 }
 
@@ -85,6 +98,30 @@ fn ours(files: &[Vec<u8>], lent: &mut Lent) -> Duration {
     start.elapsed()
 }
 
+/// What every call has to do whatever the sheet: clear the lent words.
+fn floor(lent: &mut Lent) -> f64 {
+    let clear = |lent: &mut Lent| {
+        let start = Instant::now();
+        for _ in 0..IN_A_SET {
+            black_box(&mut lent.work).fill(0);
+            black_box(&mut lent.out).fill(0);
+        }
+        start.elapsed().as_nanos() as f64 / IN_A_SET as f64
+    };
+    (0..TURNS).map(|_| clear(lent)).fold(f64::INFINITY, f64::min)
+}
+
+/// Ours on each sheet by itself, the middle one of their times.
+fn median(files: &[Vec<u8>], lent: &mut Lent) -> f64 {
+    let alone = |file: &Vec<u8>, lent: &mut Lent| {
+        let turns = (0..TURNS).map(|_| ours(std::slice::from_ref(file), lent).as_nanos() as f64);
+        turns.fold(f64::INFINITY, f64::min)
+    };
+    let mut times: Vec<f64> = files.iter().map(|file| alone(file, lent)).collect();
+    times.sort_by(f64::total_cmp);
+    times[times.len() / 2]
+}
+
 /// The first generated sheets of 10 to 300 nodes that have a list.
 fn collection() -> Vec<Vec<u8>> {
     let fits = |file: &Vec<u8>| match Sheet::read(file) {
@@ -94,50 +131,97 @@ fn collection() -> Vec<Vec<u8>> {
     (0..).map(|number| generate(SEED, number, Kind::Valid)).filter(fits).take(COLLECTION).collect()
 }
 
-fn report(name: &str, times: &Times) {
+fn heading(first: &str) {
     println!(
-        "{name:<44}{:>10.0}{:>12.0}{:>10.0}{:>9.2}",
-        times.rust,
-        times.rust_from_bytes,
-        times.ours,
-        times.ratio()
+        "{first:<44}{:>10}{:>12}{:>10}{:>8}{:>12}",
+        "the Rust", "from bytes", "ours", "ratio", "from bytes"
     );
 }
 
-/// One line a size; gives the sizes from 64 on where ours is not faster, and the growth from 256 to 1,024.
-fn series(sharing: bool, many_repeats: bool, lent: &mut Lent) -> (usize, f64) {
-    let mut slower = 0;
-    let mut ours = Vec::new();
+fn report(name: &str, times: &Times) {
+    println!(
+        "{name:<44}{:>10.0}{:>12.0}{:>10.0}{:>8.2}{:>12.2}",
+        times.rust,
+        times.rust_from_bytes,
+        times.ours,
+        times.ratio(),
+        times.ratio_from_bytes()
+    );
+}
+
+/// What the series of one set shows: the ratios at each size, the growth from 256 to 1,024 nodes, and the largest sheets.
+struct Shown {
+    ratios: Vec<f64>,
+    growth: f64,
+    largest: Vec<Vec<u8>>,
+}
+
+fn series(sharing: bool, many_repeats: bool, lent: &mut Lent) -> Shown {
+    let mut shown = Shown { ratios: Vec::new(), growth: 0.0, largest: Vec::new() };
+    let mut before = 0.0;
     for nodes in SIZES {
         let files = accepted(SEED, Set { nodes, sharing, many_repeats }, IN_A_SET);
         let times = measure(&files, lent);
         let switch = if sharing { "on" } else { "off" };
         let repeats = if many_repeats { "many" } else { "few" };
         report(&format!("{nodes} nodes, sharing {switch}, {repeats} repeats"), &times);
-        slower += usize::from(nodes >= 64 && times.ratio() <= 1.0);
-        ours.push(times.ours);
+        shown.ratios.push(times.ratio());
+        shown.growth = times.ours / before;
+        before = times.ours;
+        shown.largest = files;
     }
-    (slower, ours[3] / ours[2])
+    shown
+}
+
+/// One line a shape; gives the least ratio, and the longest of our times.
+fn table(shapes: &[Shape], lent: &mut Lent) -> (f64, f64) {
+    let (mut least, mut longest) = (f64::INFINITY, 0.0f64);
+    for shape in shapes {
+        let times = measure(&vec![shape.file.clone(); AGAIN], lent);
+        report(shape.name, &times);
+        least = least.min(times.ratio());
+        longest = longest.max(times.ours);
+    }
+    (least, longest)
 }
 
 fn main() -> ExitCode {
     let mut lent = Lent { work: vec![0; WORDS], out: vec![0; WORDS] };
-    println!(
-        "{:<44}{:>10}{:>12}{:>10}{:>9}",
-        "ns a sheet", "the Rust", "from bytes", "ours", "ratio"
-    );
+    heading("ns a sheet");
     let whole = measure(&collection(), &mut lent);
     report(&format!("collection of {COLLECTION}, 10 to 300 nodes"), &whole);
-    let mut slower = 0;
-    let mut growth: f64 = 0.0;
-    for (sharing, many_repeats) in [(true, false), (true, true), (false, false), (false, true)] {
-        let (more, grown) = series(sharing, many_repeats, &mut lent);
-        slower += more;
-        growth = growth.max(grown);
-    }
+    let sets = [(true, false), (true, true), (false, false), (false, true)];
+    let shown: Vec<Shown> =
+        sets.iter().map(|(sharing, repeats)| series(*sharing, *repeats, &mut lent)).collect();
+    let growth = shown.iter().map(|set| set.growth).fold(0.0, f64::max);
+    let small = shown.iter().map(|set| set.ratios[0]).fold(f64::INFINITY, f64::min);
+    let least = shown.iter().flat_map(|set| &set.ratios).copied().fold(f64::INFINITY, f64::min);
+    println!();
+    heading("shapes of about 1,024 nodes");
+    let mut hard = shapes();
+    hard.push(Shape { name: "the slowest that mutation found", file: worst() });
+    let (least_shape, longest) = table(&hard, &mut lent);
+    let largest: Vec<Vec<u8>> = shown.into_iter().flat_map(|set| set.largest).collect();
+    let middle = median(&largest, &mut lent);
+    let calls =
+        |statements, lent: &mut Lent| measure(&vec![nested_calls(statements); AGAIN], lent).ours;
+    let calls_growth = calls(256, &mut lent) / calls(64, &mut lent);
+    println!();
     println!(
-        "{:.2} times as fast as the Rust on the collection; slower at {slower} of 12 sizes from 64 nodes; growth from 256 to 1,024 nodes at most {growth:.2}-fold",
-        whole.ratio()
+        "clearing the lent words: {:.0} ns; the median sheet of 1,024 nodes: {middle:.0} ns",
+        floor(&mut lent)
     );
-    ExitCode::from(u8::from(whole.ratio() <= 1.0 || slower > 0 || growth > 6.0))
+    println!(
+        "the slowest shape: {:.2} times that; growth from 192 to 768 calls: {calls_growth:.2}-fold",
+        longest / middle
+    );
+    println!("growth from 256 to 1,024 nodes: at most {growth:.2}-fold; 16 nodes: at least {small:.2} times as fast as the Rust");
+    println!(
+        "{:.2} times as fast as the Rust on the collection, {:.2} times from the same bytes; at least {:.2} times at any size or shape",
+        whole.ratio(),
+        whole.ratio_from_bytes(),
+        least.min(least_shape)
+    );
+    let slow = least.min(least_shape) <= 1.0 || longest > MEDIANS * middle;
+    ExitCode::from(u8::from(slow || growth > GROWTH || calls_growth > CALLS_GROWTH))
 }

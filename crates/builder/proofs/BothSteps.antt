@@ -10,12 +10,12 @@ use Rattle.builder.specs.declared.Step.{Step}
 use Rattle.builder.specs.declared.Step.the-variants as Step
 use Rattle.builder.specs.Steps.{Listable, TrimsTo, ListsTo, CompilesTo}
 
-module _ (h : Header) (ws rows : List ℕ) (n : ℕ) (ms rs : List ℕ) {t : Step} (trims : TrimsTo h ws rows n ms rs t) where
+module _ (h : Header) (ws rows : List ℕ) (n : ℕ) (ms es rs : List ℕ) {t : Step} (trims : TrimsTo h ws rows n ms es rs t) where
   module _ {s : State} (is : t ≡ Step.Trimmed s) where
-    step-trims : TrimsTo h ws rows n ms rs (Step.Trimmed s)
+    step-trims : TrimsTo h ws rows n ms es rs (Step.Trimmed s)
     step-trims = rw is at trims
 
-    pub step-listable : Listable ws ms rs s
+    pub step-listable : Listable ws ms es rs s
     unfolding TrimsTo
     step-listable = step-trims .0
 
@@ -26,5 +26,5 @@ module _ (h : Header) (ws rows : List ℕ) (n : ℕ) (ms rs : List ℕ) {t : Ste
   pub step-refused : {k : ℕ} → t ≡ Step.Refused k → (out out′ : List ℕ) → CompilesTo h ws rows n out out′ (Refused k)
   unfolding TrimsTo CompilesTo
   step-refused {k} is out out′ file same read =
-      let refused : TrimsTo h ws rows n ms rs (Step.Refused k) = rw is at trims in
+      let refused : TrimsTo h ws rows n ms es rs (Step.Refused k) = rw is at trims in
       rw (refused file same read) refl

@@ -1,5 +1,5 @@
 -- The first step: what sharing and trimming leave in the rows is the definition's, and so is check 8.
-use mathlib.Core.Path.{_≡_, refl, ap, sym, _∙_}
+use mathlib.Core.Path.{_≡_, refl, ap, ap₂, sym, _∙_}
 use Prim.Native.Nat.{ℕ}
 use mathlib.Core.Bool.{Bool, true, false}
 use mathlib.Core.List.{List, []}
@@ -13,26 +13,35 @@ use Rattle.definitions.specs.Sheet.{got, scratchCount, sharing}
 use Rattle.definitions.specs.Eliminate.{textsOf, eliminate}
 use Rattle.definitions.specs.Trim.{Trimming, trimAll, tooWide}
 use Rattle.definitions.specs.Answer.{temporary, texts, eliminated, trimmed, temporaryCount}
+use Rattle.node.specs.Views.{Fresh}
 use Rattle.node.proofs.Views.{zeros-unmarked}
+use Rattle.ershov.specs.Number.{Ershovs}
 use Rattle.statement.specs.declared.State.{State}
 use Rattle.statement.specs.Rows.{rowsFrom, statementsOf, sheetFrom}
-use Rattle.statement.specs.Handover.{Unmarked, SheetTrimmed}
+use Rattle.statement.specs.Handover.{Unmarked, SheetEliminated, SheetTrimmed}
+use Rattle.calls.specs.declared.Settings.{Settings}
 use Rattle.reader.specs.Reads.{SheetRead}
 use Rattle.block.specs.Sharing.{Eliminated}
+use Rattle.builder.specs.declared.Step.{Step}
 use Rattle.builder.specs.declared.Step.the-variants.{Trimmed, Refused}
-use Rattle.builder.specs.Steps.{rowsSay, Listable, TrimsTo}
+use Rattle.builder.specs.Steps.{Listable, trimsRows, RowsTrimTo, TrimsTo}
 
 -- an array of zeros marks no node
 pub zeros-unmark : Unmarked (replicate nodeLimit 0)
 zeros-unmark = record { blank = λ i. zeros-unmarked nodeLimit i; wide = length-replicate {0} {A = ℕ} nodeLimit 0 }
 
-module _ (h : Header) (ws rows : List ℕ) (n : ℕ) (ms er : List ℕ) (e : State) (shared : Eliminated h ws rows n ms er e)
-    (ms′ rs : List ℕ) (s : State) (put : SheetTrimmed h ws ms ms′ er rs n e s) where
-  rows-listable : Listable ws ms′ rs s
+-- ---- from the rows that sharing left
+
+module _ (g : Settings) (ws ms er : List ℕ) (e : State) (handed : SheetEliminated ws ms er (g .nodes) e) (ms′ rs : List ℕ) (s : State)
+    (put : SheetTrimmed (g .sharing) (g .scratch) ws ms ms′ er rs (g .nodes) e s) (es : List ℕ) (numbers : Ershovs ws ms′ es 0 (g .nodes))
+    (wide : Bool) (by-rows : (places : ℕ → Loc) → wide ≡ tooWide (g .scratch) (statementsOf places ws ms′ (rowsFrom rs 0 (s .count))))
+    where
+  rows-listable : Listable ws ms′ es rs s
   rows-listable =
       record {
-        nodes = n;
-        table = shared .handed .table;
+        nodes = g .nodes;
+        table = handed .table;
+        numbers = numbers;
         few = put .few;
         low = put .low;
         small = put .small;
@@ -40,6 +49,25 @@ module _ (h : Header) (ws rows : List ℕ) (n : ℕ) (ms er : List ℕ) (e : Sta
         placed = put .placed;
       }
 
+  -- check 8 of the rows is that of the statements
+  wide-is : (places : ℕ → Loc) → Fresh places ws (g .nodes) → tooWide (g .scratch) (trimsRows g ws ms er e places .statements) ≡ wide
+  wide-is places f = rw (put .trimmed places f) (sym (by-rows places))
+
+  pub rows-refused : wide ≡ true → RowsTrimTo g ws ms er e ms′ es rs (Refused 8)
+  unfolding RowsTrimTo
+  rows-refused on = (refl, λ places f. wide-is places f ∙ on)
+
+  pub rows-trimmed : wide ≡ false → RowsTrimTo g ws ms er e ms′ es rs (Trimmed s)
+  unfolding RowsTrimTo
+  rows-trimmed off = (rows-listable, λ places f. (put .trimmed places f, wide-is places f ∙ off))
+
+-- ---- from the sheet's rows
+
+abbrev settingsOf : (h : Header) (n : ℕ) → Settings
+settingsOf h n = record { nodes = n; scratch = h .scratch; sharing = h .sharing }
+
+module _ (h : Header) (ws rows : List ℕ) (n : ℕ) (ms er : List ℕ) (e : State)
+    (shared : Eliminated (h .sharing) ws rows n (h .count) ms er e) (ms′ es rs : List ℕ) where
   module _ (file : List ℕ) (is : h ≡ headerOf file) (q : SheetRead file ws rows n) where
     same-sheet : sheetFrom ws rows 0 (h .count) ≡ q .sheet
     same-sheet = rw is (q .stands)
@@ -47,8 +75,8 @@ module _ (h : Header) (ws rows : List ℕ) (n : ℕ) (ms er : List ℕ) (e : Sta
     same-texts : textsOf (h .sharing) (sheetFrom ws rows 0 (h .count)) ≡ texts file (q .sheet)
     same-texts = rw (same-sheet, is) refl
 
-    -- from the definition's number of texts and eliminated statements to those of sharing, and on to the rows
-    trimmed-is : trimmed file (q .sheet) ≡ record { next = s .next; statements = rowsSay file ws ms′ rs s }
+    -- from the definition's number of texts and eliminated statements to those of sharing
+    trimmed-is : trimmed file (q .sheet) ≡ trimsRows (settingsOf h n) ws ms er e (temporary file)
     unfolding trimmed eliminated
     trimmed-is =
         let trims : ℕ → List Statement → _ = λ k ss. trimAll (sharing file) (scratchCount file) (temporary file) k [] ss in
@@ -56,23 +84,22 @@ module _ (h : Header) (ws rows : List ℕ) (n : ℕ) (ms er : List ℕ) (e : Sta
         (sym (shared .given ∙ ap length same-texts))
         ∙ ap (λ (ss : List Statement). trims (e .next) ss)
         (sym (shared .statements (temporary file) ∙ rw (same-texts, same-sheet) refl))
-        ∙ (rw is at (put .trimmed (temporary file) (q .fresh)))
+        ∙ rw is refl
 
-    -- check 8 of the rows is the definition's
-    wide-is : (wide : Bool) → tooWide (h .scratch) (rowsSay file ws ms′ rs s) ≡ wide
+    -- so is check 8
+    wide-was : {wide : Bool} → tooWide (h .scratch) (trimsRows (settingsOf h n) ws ms er e (temporary file) .statements) ≡ wide
         → tooWide (scratchCount file) (trimmed file (q .sheet) .statements) ≡ wide
-    wide-is wide e = rw trimmed-is (rw is at e)
+    wide-was k =
+        let scratch : h .scratch ≡ scratchCount file = rw is refl in
+        ap₂ (λ (c : ℕ) (t : Trimming). tooWide c (t .statements)) (sym scratch) trimmed-is ∙ k
 
-  module _ (wide : Bool)
-      (by-rows : (places : ℕ → Loc) → wide ≡ tooWide (h .scratch) (statementsOf places ws ms′ (rowsFrom rs 0 (s .count)))) where
-    pub wide-refused : wide ≡ true → TrimsTo h ws rows n ms′ rs (Refused 8)
-    unfolding TrimsTo
-    wide-refused on file is q = rw (q .read, wide-is file is q wide (sym (by-rows (temporary file))), on) refl
-
-    pub narrow-trimmed : wide ≡ false → TrimsTo h ws rows n ms′ rs (Trimmed s)
-    unfolding TrimsTo temporaryCount
-    narrow-trimmed off = (
-      rows-listable,
-      (λ file is q. rw (q .read, wide-is file is q wide (sym (by-rows (temporary file))), off)
-          (ap (λ (t : Trimming). got (t .statements) (t .next)) (trimmed-is file is q))),
-    )
+  pub sheet-trims : (t : Step) → RowsTrimTo (settingsOf h n) ws ms er e ms′ es rs t → TrimsTo h ws rows n ms′ es rs t
+  unfolding TrimsTo RowsTrimTo temporaryCount
+  sheet-trims (Trimmed s) x = (
+    x .0,
+    (λ file is q.
+        let done = x .1 (temporary file) (q .fresh) in
+        rw (q .read, wide-was file is q (done .1))
+        (ap (λ (t : Trimming). got (t .statements) (t .next)) (trimmed-is file is q ∙ done .0))),
+  )
+  sheet-trims (Refused k) x = λ file is q. rw (q .read, wide-was file is q (x .1 (temporary file) (q .fresh)), x .0) refl

@@ -19,29 +19,29 @@ use Rattle.statement.specs.declared.Row.the-variants.{Given, Copied, Kept, Pass
 use Rattle.statement.specs.Rows.{rowAt}
 use Rattle.statement.specs.Rowing.{OnRoot, NumberedBelow}
 use Rattle.statement.proofs.EveryRow.{all-row}
-use Rattle.ershov.proofs.Numbers.{table-near}
+use Rattle.ershov.proofs.Numbers.{table-known}
 use Rattle.evaluator.proofs.Temporaries.{indexed-below, marks-indexed}
 use Rattle.evaluator.specs.Ready.{MarksIndexed}
 use Rattle.mir.specs.Lists.{RowFits, RowsFit, rowsOps, RowsListed}
 use Rattle.builder.specs.declared.Answer.the-variants.{Listed, Refused}
 use Rattle.builder.specs.Steps.{StepInRange, rowsSay, Listable, ListsTo}
 
-module _ (h : Header) (ws ms rs : List ℕ) (s : State) (l : Listable ws ms rs s) (k : StepInRange h) where
+module _ (h : Header) (ws ms es rs : List ℕ) (s : State) (l : Listable ws ms es rs s) (k : StepInRange h) where
   -- a temporary's index can be counted, whatever check 9 says
   pub index-small : h .first + h .step * s .next ≤ 100000
   index-small = omega (arith, mul-le-mul-left (h .step) (l .low), l .low, k .short, k .low)
 
   -- check 9 has passed
   module _ (inRange : h .first + h .step * s .next ≤ indexEnd) where
-    row-fits : (r : Row) → OnRoot (λ b. b < l .nodes) r → NumberedBelow (s .next) r → RowFits h ws r
-    row-fits (Given p b) root low = table-near ws (l .nodes) (l .table) b root
+    row-fits : (r : Row) → OnRoot (λ b. b < l .nodes) r → NumberedBelow (s .next) r → RowFits h ws ms es r
+    row-fits (Given p b) root low = table-known (l .table) (l .numbers) b root
     row-fits (Copied p i) root low = indexed-below h (s .next) (k .steps) inRange i low
-    row-fits (Kept i b) root low = (indexed-below h (s .next) (k .steps) inRange i low, table-near ws (l .nodes) (l .table) b root)
+    row-fits (Kept i b) root low = (indexed-below h (s .next) (k .steps) inRange i low, table-known (l .table) (l .numbers) b root)
     row-fits (Passed i j) root low =
         (indexed-below h (s .next) (k .steps) inRange i (low .0), indexed-below h (s .next) (k .steps) inRange j (low .1))
-    row-fits (Made i b) root low = (indexed-below h (s .next) (k .steps) inRange i low, table-near ws (l .nodes) (l .table) b root)
+    row-fits (Made i b) root low = (indexed-below h (s .next) (k .steps) inRange i low, table-known (l .table) (l .numbers) b root)
 
-    pub rows-fit : RowsFit h ws rs (s .count)
+    pub rows-fit : RowsFit h ws ms es rs (s .count)
     rows-fit i low =
         row-fits (rowAt rs i)
         (all-row (OnRoot (λ b. b < l .nodes)) rs (s .count) i (l .placed) low)

@@ -1,18 +1,24 @@
 -- The two steps of an answer in code: trimmed statements as rows, and then their list.
 use mathlib.Core.Path.{_≡_}
 use Prim.Native.Nat.{ℕ, _<_, _≤_}
-use mathlib.Core.List.{List}
+use mathlib.Core.Bool.{true, false}
+use mathlib.Core.List.{List, []}
 use lib.ListN.{length, getD}
 use Rattle.limits.specs.Limits.{indexEnd, rowLimit, temporaryLimit}
+use Rattle.symbol.specs.declared.Loc.{Loc}
 use Rattle.header.specs.declared.Header.{Header}
 use Rattle.header.specs.Settings.{headerOf}
 use Rattle.definitions.specs.Statement.{Statement}
 use Rattle.definitions.specs.Sheet.{got, bad}
+use Rattle.definitions.specs.Trim.{Trimming, trimAll, tooWide}
 use Rattle.definitions.specs.Answer.{temporary, compiled, judged}
 use Rattle.node.specs.Nodes.{Table}
+use Rattle.node.specs.Views.{Fresh}
+use Rattle.ershov.specs.Number.{Ershovs}
 use Rattle.statement.specs.declared.State.{State}
 use Rattle.statement.specs.Rows.{rowsFrom, statementsOf}
 use Rattle.statement.specs.Rowing.{All, OnRoot, NumberedBelow}
+use Rattle.calls.specs.declared.Settings.{Settings}
 use Rattle.reader.specs.Reads.{SheetRead}
 use Rattle.builder.specs.declared.Answer.{Answer}
 use Rattle.builder.specs.declared.Step.{Step}
@@ -29,23 +35,40 @@ pub record StepInRange (h : Header) : Type 0 where
 abbrev pub rowsSay : (file ws ms rs : List ℕ) → State → List Statement
 rowsSay file ws ms rs s = statementsOf (temporary file) ws ms (rowsFrom rs 0 (s .count))
 
--- rows that can be emitted: their roots are nodes, their temporaries were given out
-pub record Listable (ws ms rs : List ℕ) (s : State) : Type 0 where
+-- rows that can be emitted: their roots are nodes whose Ershov numbers are kept, their temporaries were given out
+pub record Listable (ws ms es rs : List ℕ) (s : State) : Type 0 where
   pub nodes : ℕ
   pub table : Table ws nodes
+  pub numbers : Ershovs ws ms es 0 nodes
   pub few : s .count ≤ rowLimit
   pub low : s .next ≤ temporaryLimit
   pub small : (j : ℕ) → getD ms j 0 ≤ s .next
   pub named : All (NumberedBelow (s .next)) (rowsFrom rs 0 (s .count))
   pub placed : All (OnRoot (λ i. i < nodes)) (rowsFrom rs 0 (s .count))
 
+-- what trimming makes of the statements of the rows er, by the definition
+abbrev pub trimsRows : (g : Settings) (ws ms er : List ℕ) (e : State) (places : ℕ → Loc) → Trimming
+trimsRows g ws ms er e places =
+    trimAll (g .sharing) (g .scratch) places (e .next) [] (statementsOf places ws ms (rowsFrom er 0 (e .count)))
+
+-- the end of the first step is the definition's, wherever temporaries are
+unfoldable pub RowsTrimTo : (g : Settings) (ws ms er : List ℕ) (e : State) (ms′ es rs : List ℕ) → Step → Type 0
+RowsTrimTo g ws ms er e ms′ es rs (Trimmed s) =
+    Listable ws ms′ es rs s
+    × ((places : ℕ → Loc) → Fresh places ws (g .nodes) →
+    (trimsRows g ws ms er e places ≡ record { next = s .next; statements = statementsOf places ws ms′ (rowsFrom rs 0 (s .count)) })
+    × (tooWide (g .scratch) (trimsRows g ws ms er e places .statements) ≡ false))
+RowsTrimTo g ws ms er e ms′ es rs (Refused k) =
+    (k ≡ 8)
+    × ((places : ℕ → Loc) → Fresh places ws (g .nodes) → tooWide (g .scratch) (trimsRows g ws ms er e places .statements) ≡ true)
+
 -- the first step is the definition's, of each file whose sheet stands in the words and rows
-unfoldable pub TrimsTo : (h : Header) (ws rows : List ℕ) (n : ℕ) (ms rs : List ℕ) → Step → Type 0
-TrimsTo h ws rows n ms rs (Trimmed s) =
-    Listable ws ms rs s
+unfoldable pub TrimsTo : (h : Header) (ws rows : List ℕ) (n : ℕ) (ms es rs : List ℕ) → Step → Type 0
+TrimsTo h ws rows n ms es rs (Trimmed s) =
+    Listable ws ms es rs s
     × ((file : List ℕ) → h ≡ headerOf file → SheetRead file ws rows n →
     compiled file ≡ got (rowsSay file ws ms rs s) (s .next))
-TrimsTo h ws rows n ms rs (Refused k) = (file : List ℕ) → h ≡ headerOf file → SheetRead file ws rows n → compiled file ≡ bad k
+TrimsTo h ws rows n ms es rs (Refused k) = (file : List ℕ) → h ≡ headerOf file → SheetRead file ws rows n → compiled file ≡ bad k
 
 -- so is the second, of the statements that the rows say
 unfoldable pub ListsTo : (h : Header) (ws ms rs : List ℕ) (s : State) (out out′ : List ℕ) → Answer → Type 0

@@ -2,6 +2,7 @@
 use mathlib.Core.Path.{_≡_, refl, sym, ap, _∙_}
 use mathlib.Core.Bool.{Bool, true, false, false≢true}
 use mathlib.Core.List.{List, [], _∷_}
+use mathlib.Core.Logic.{_≢_}
 use mathlib.Core.Option.{none}
 use Prim.Native.Nat.{ℕ, _+_, _-_, _<_}
 use native.Mathlib.Omega.{arith}
@@ -25,6 +26,8 @@ use Rattle.statement.specs.declared.Row.the-variants.{Given, Copied, Kept, Pass
 use Rattle.statement.specs.Rows.{callInto, statementsOf}
 use Rattle.statement.specs.Rowing.{All, Unmade}
 use Rattle.compare.specs.Comparison.{TwoTrees, SameSeen}
+use Rattle.keys.specs.Keys.{SeenMix}
+use Rattle.keys.proofs.Mixing.{mixes-differ}
 use Rattle.calls.specs.Calls.{CallSought, CallFresh, CallFound}
 
 -- ---- trees of functions
@@ -89,7 +92,7 @@ module _ {ws : List ℕ} {i m b : ℕ} {row : Row} (s : CallSought ws i (row ∷
         rw (told, h temporary (f .nodes) (f .fresh) ends (f .tree))
         (seek-made (seen temporary ws ms i) function (temporary m) (seen temporary ws ms b))
 
-    pub same-call-hits : r ≡ true → CallFound true ws ms i (row ∷ []) (m + 1)
+    pub same-call-hits : r ≡ true → CallFound ws ms i (row ∷ []) (m + 1)
     unfolding All
     same-call-hits e =
         let back : m + 1 - 1 ≡ m = omega arith in
@@ -98,12 +101,16 @@ module _ {ws : List ℕ} {i m b : ℕ} {row : Row} (s : CallSought ws i (row ∷
           is = λ temporary f. rw (made-sought temporary f, e, ne-eqb (m + 1) 0 (λ z. omega arith), back) refl;
         }
 
-    pub other-call-misses : r ≡ false → CallFound true ws ms i (row ∷ []) 0
+    pub other-call-misses : r ≡ false → CallFound ws ms i (row ∷ []) 0
     other-call-misses e = record { mark = λ next l. omega arith; is = λ temporary f. rw (made-sought temporary f, e) refl }
+
+  -- a call with another mix is another call
+  pub other-mix-misses : (ms : List ℕ) {x y : ℕ} → SeenMix ws ms b x → SeenMix ws ms i y → x ≢ y → CallFound ws ms i (row ∷ []) 0
+  other-mix-misses ms h k apart = other-call-misses ms (mixes-differ ws ms b i h k apart) refl
 
 -- ---- a row that makes none
 
-pub unmade-misses : (ws ms : List ℕ) (i : ℕ) {row z : Row} → row ≡ z → Unmade z → CallFound true ws ms i (row ∷ []) 0
+pub unmade-misses : (ws ms : List ℕ) (i : ℕ) {row z : Row} → row ≡ z → Unmade z → CallFound ws ms i (row ∷ []) 0
 unfolding seek statementsOf
 unmade-misses ws ms i {row} {z} e h = rw e record { mark = λ next l. omega arith; is = λ temporary f. none-sought temporary z h }
   where

@@ -1,13 +1,15 @@
 -- Row after row: what is found among rows, and what a call comes to by it. Assumes nothing.
-use mathlib.Core.Path.{_≡_, refl, sym, _∙_}
-use mathlib.Core.Bool.{Bool, true, false}
+use mathlib.Core.Path.{_≡_, refl, sym, ap, _∙_}
+use mathlib.Core.Bool.{Bool, true, false, false≢true}
 use mathlib.Core.List.{List, [], _∷_}
 use mathlib.Core.Logic.{_≢_}
 use mathlib.Core.Option.{Option, none, some}
-use Prim.Native.Nat.{ℕ, _+_, _-_, _*_, _<_, _≤_}
+use Prim.Native.Nat.{ℕ, zero, suc, _+_, _-_, _*_, _<_, _≤_}
 use native.Mathlib.Omega.{arith}
-use lib.Seq.{sets}
-use borrow.Author.Tests.{ne-eqb}
+use native.Mathlib.Nat.{add-zero}
+use borrow.Author.Tests.{eq-eqb, ne-eqb}
+use lib.ListN.{getD, set, length-set}
+use Rattle.limits.specs.Limits.{nodeLimit, temporaryLimit}
 use Rattle.symbol.specs.declared.Loc.{Loc}
 use Rattle.definitions.specs.Tree.{Tree}
 use Rattle.definitions.specs.Same.{same}
@@ -15,13 +17,20 @@ use Rattle.definitions.specs.Statement.{Statement, assign, call, callTree}
 use Rattle.definitions.specs.Trim.{firstOf, seek}
 use Rattle.node.specs.Nodes.{endAt}
 use Rattle.node.specs.Views.{seen, Fresh}
+use Rattle.node.proofs.Nodes.{equal-or}
 use Rattle.statement.specs.declared.Row.{Row}
-use Rattle.statement.specs.declared.Row.the-variants.{Made}
-use Rattle.statement.specs.Rows.{rowAt, rowsFrom, rowStatement, statementsOf, rowWords}
-use Rattle.statement.specs.Rowing.{All, NumberedBelow}
+use Rattle.statement.specs.declared.Row.the-variants.{Given, Copied, Kept, Passed, Made}
+use Rattle.statement.specs.declared.State.{State}
+use Rattle.statement.specs.Rows.{HasLink, linkAt, rowAt, rowsFrom, rowStatement, statementsOf}
+use Rattle.statement.specs.Rowing.{All, Unmade, NumberedBelow}
+use Rattle.statement.proofs.EveryRow.{all-one, all-row, rows-left, roots-map, named-up}
 use Rattle.compare.specs.Comparison.{Comparable}
-use Rattle.calls.specs.Calls.{CallSought, CallFresh, foundAs, CallFound, CallReady, CallBroken, found, made}
-use Rattle.statement.proofs.EveryRow.{rows-left, roots-map}
+use Rattle.keys.specs.Keys.{SeenMix}
+use Rattle.calls.specs.declared.Trimmed.{Trimmed}
+use Rattle.calls.specs.Index.{slot, OnMade, Mixed, LastOf, Linked, Keyed, Indexed, Sought, SeekReady}
+use Rattle.calls.specs.Calls.{CallSought, CallFresh, foundAs, orElse, CallFound, CallReady, CallMade, CallBroken, found, made}
+use Rattle.calls.proofs.OneRow.{other-mix-misses, unmade-misses}
+use Rattle.calls.proofs.Keying.{keyed-called}
 
 -- ---- one statement before others
 
@@ -57,18 +66,8 @@ module _ {temporary : ℕ → Loc} {ws : List ℕ} {i : ℕ} {r : Row} {rows : L
   unfolding All
   fresh-rest = record { nodes = f .nodes; fresh = f .fresh; tree = f .tree; trees = f .trees .1 }
 
-module _ {ws : List ℕ} {i : ℕ} {r : Row} {rows : List Row} (s : CallSought ws i (r ∷ rows)) where
-  sought-first : CallSought ws i (r ∷ [])
-  unfolding All
-  sought-first = record { tree = s .tree; called = s .called; placed = (s .placed .0, tt); named = (s .named .0, tt) }
-
-  sought-rest : CallSought ws i rows
-  unfolding All
-  sought-rest = record { tree = s .tree; called = s .called; placed = s .placed .1; named = s .named .1 }
-
 module _ {ws ms : List ℕ} {i : ℕ} {r : Row} {m : ℕ} where
-  found-later : (rows : List Row) → CallFound true ws ms i (r ∷ []) 0 → CallFound true ws ms i rows m →
-      CallFound true ws ms i (r ∷ rows) m
+  found-later : (rows : List Row) → CallFound ws ms i (r ∷ []) 0 → CallFound ws ms i rows m → CallFound ws ms i (r ∷ rows) m
   unfolding All statementsOf
   found-later rows here later =
       record {
@@ -79,7 +78,7 @@ module _ {ws ms : List ℕ} {i : ℕ} {r : Row} {m : ℕ} where
             ∙ later .is temporary (fresh-rest f);
       }
 
-  found-here : (rows : List Row) → m ≢ 0 → CallFound true ws ms i (r ∷ []) m → CallFound true ws ms i (r ∷ rows) m
+  found-here : (rows : List Row) → m ≢ 0 → CallFound ws ms i (r ∷ []) m → CallFound ws ms i (r ∷ rows) m
   unfolding All statementsOf
   found-here rows e here =
       record {
@@ -91,76 +90,181 @@ module _ {ws ms : List ℕ} {i : ℕ} {r : Row} {m : ℕ} where
             ∙ sym some-found;
       }
 
--- ---- so many rows, looked at from the first on
+found-first : {ws ms : List ℕ} {i : ℕ} {r : Row} {rows : List Row} {m later : ℕ} → CallFound ws ms i (r ∷ []) m →
+    CallFound ws ms i rows later → CallFound ws ms i (r ∷ rows) (orElse m later)
+found-first {ws} {ms} {i} {r} {rows} {m} {later} here rest =
+    equal-or m 0
+    (λ e. rw (eq-eqb m 0 e) (found-later rows (rw e at here) rest))
+    (λ e. rw (ne-eqb m 0 e) (found-here rows e here))
 
--- what is found among the rows from row k on is found among all
-pub record RowsSearched (ws ms rs : List ℕ) (i count k : ℕ) : Type 0 where
-  pub left : CallSought ws i (rowsFrom rs k (count - k))
-  pub since : (m : ℕ) → CallFound true ws ms i (rowsFrom rs k (count - k)) m → CallFound true ws ms i (rowsFrom rs 0 count) m
+-- ---- the rows of a chain, from its last row on
 
-module _ (ws ms rs : List ℕ) (i count : ℕ) where
-  pub search-off : {sharing : Bool} → sharing ≡ false → CallFound sharing ws ms i (rowsFrom rs 0 count) 0
-  search-off e = rw e record { mark = λ next h. omega arith; is = λ temporary f. refl }
+sought-row : {ws : List ℕ} {i : ℕ} (rs : List ℕ) (count : ℕ) → CallSought ws i (rowsFrom rs 0 count) → (k : ℕ) → k < count →
+    CallSought ws i (rowAt rs k ∷ [])
+sought-row rs count s k l =
+    record {
+      tree = s .tree;
+      called = s .called;
+      placed = all-one _ _ (all-row _ rs count k (s .placed) l);
+      named = all-one _ _ (all-row _ rs count k (s .named) l);
+    }
 
-  pub search-starts : CallSought ws i (rowsFrom rs 0 count) → RowsSearched ws ms rs i count 0
-  search-starts s = let e : count - 0 ≡ count = omega arith in record { left = rw e s; since = λ m h. rw e at h }
+-- the rows from `high` on were looked at, with the answer so far, and the chain goes on with v
+pub record Searched (ws ms rs : List ℕ) (i count v answer : ℕ) : Type 0 where
+  pub asked : CallSought ws i (rowsFrom rs 0 count)
+  pub by : Sought ws ms rs i count
+  pub high : ℕ
+  pub within : high ≤ count
+  pub here : LastOf (by .key) rs (slot (by .mix)) high v
+  pub past : CallFound ws ms i (rowsFrom rs high (count - high)) answer
 
-  module _ {k : ℕ} {row : Row} (searched : RowsSearched ws ms rs i count k) (l : k < count) (u : row ≡ rowAt rs k) where
-    pub search-asks : CallSought ws i (row ∷ [])
-    search-asks = rw u (sought-first (rw (rows-left rs count k l) at (searched .left)))
+module _ {ws ms rs : List ℕ} {i count v answer : ℕ} (x : Searched ws ms rs i count v answer) where
+  abbrev by : Sought ws ms rs i count
+  by = x .by
 
-    pub search-goes-on : {m : ℕ} → m ≡ 0 → CallFound true ws ms i (row ∷ []) m → RowsSearched ws ms rs i count (k + 1)
-    search-goes-on e here =
+  -- a row that is not in the chain makes another call, or none
+  row-misses : (j : ℕ) → v ≤ j → j < x .high → CallFound ws ms i (rowAt rs j ∷ []) 0
+  row-misses j a b =
+      equal-or (slot (by .key j)) (slot (by .mix))
+      (λ e. unmade-misses ws ms i refl (x .here .none j a b e))
+      (λ e. by-row (rowAt rs j) refl (λ q. e (ap slot q)))
+    where
+      by-row : (r : Row) → rowAt rs j ≡ r → by .key j ≢ by .mix → CallFound ws ms i (rowAt rs j ∷ []) 0
+      by-row (Given p b) e apart = unmade-misses ws ms i e tt
+      by-row (Copied p k) e apart = unmade-misses ws ms i e tt
+      by-row (Kept m b) e apart = unmade-misses ws ms i e tt
+      by-row (Passed m k) e apart = unmade-misses ws ms i e tt
+      by-row (Made m root) e apart =
+          let l : j < count = omega (arith, x .within) in
+          other-mix-misses (sought-row rs count (x .asked) j l) e ms (rw e at (by .mixed j l)) (by .ours) apart
+
+  -- so what was found is found among the rows from v on
+  rows-past : (d w : ℕ) → v ≤ w → w + d ≡ x .high → CallFound ws ms i (rowsFrom rs w (count - w)) answer
+  rows-past zero w a e = let q : w ≡ x .high = omega arith in rw q (x .past)
+  rows-past (suc d) w a e =
+      let l : w < count = omega (arith, x .within) in
+      rw (rows-left rs count w l)
+      (found-later _ (row-misses w a (omega arith)) (rows-past d (w + 1) (omega arith) (omega arith)))
+
+  pub searched-on : CallFound ws ms i (rowsFrom rs v (count - v)) answer
+  searched-on = rows-past (x .high - v) v (omega arith) (omega (arith, x .here .below))
+
+  -- the last row of the chain: what it says is put before the answer so far
+  module _ (more : v ≢ 0) where
+    abbrev last : ℕ
+    last = v - 1
+
+    pub chain-within : last < count
+    chain-within = omega (arith, more, x .here .below, x .within)
+
+    pub chain-asked : {row : Row} → row ≡ rowAt rs last → CallSought ws i (row ∷ [])
+    chain-asked u = rw u (sought-row rs count (x .asked) last chain-within)
+
+    pub chain-linked : HasLink rs last
+    chain-linked = x .here .linked (omega (arith, more))
+
+    chain-goes : LastOf (by .key) rs (slot (by .mix)) last (linkAt rs last)
+    chain-goes = rw (x .here .own (omega (arith, more))) at (by .goes last chain-within chain-linked)
+
+    pub chain-falls : linkAt rs last < v
+    chain-falls = omega (arith, more, chain-goes .below)
+
+    pub chain-next : {row : Row} {m z w : ℕ} → row ≡ rowAt rs last → CallFound ws ms i (row ∷ []) m → z ≡ orElse m answer →
+        w ≡ linkAt rs last → Searched ws ms rs i count w z
+    chain-next {row} {m} u hit ez ew =
+        let up : last + 1 ≡ v = omega (arith, more) in
+        rw (ez, ew)
         record {
-          left = sought-rest (rw (rows-left rs count k l) at (searched .left));
-          since = λ m later. searched .since m (rw (rows-left rs count k l) (found-later _ (rw (u, e) at here) later));
+          asked = x .asked;
+          by = by;
+          high = last;
+          within = omega (arith, chain-within);
+          here = chain-goes;
+          past = rw (rows-left rs count last chain-within, up) (found-first (rw u at hit) searched-on);
         }
 
-    pub search-finds : {sharing : Bool} {m : ℕ} → sharing ≡ true → m ≢ 0 → CallFound true ws ms i (row ∷ []) m →
-        CallFound sharing ws ms i (rowsFrom rs 0 count) m
-    search-finds {sharing} {m} on e here = rw on (searched .since m (rw (rows-left rs count k l) (found-here _ e (rw u at here))))
+  pub chain-ends : v ≡ 0 → CallFound ws ms i (rowsFrom rs 0 count) answer
+  chain-ends e = let z : count - 0 ≡ count = omega arith in rw z at (rw e at searched-on)
 
-  pub search-ends : {sharing : Bool} {k : ℕ} → sharing ≡ true → count ≤ k → RowsSearched ws ms rs i count k →
-      CallFound sharing ws ms i (rowsFrom rs 0 count) 0
-  unfolding seek statementsOf rowsFrom
-  search-ends {sharing} {k} on l searched =
-      let e : count - k ≡ 0 = omega arith in
-      rw on (searched .since 0 (rw e record { mark = λ next h. omega arith; is = λ temporary f. refl }))
+none-found : (ws ms : List ℕ) (i : ℕ) → CallFound ws ms i [] 0
+unfolding seek statementsOf
+none-found ws ms i = record { mark = λ next h. omega arith; is = λ temporary f. refl }
+
+pub search-starts : {ws ms : List ℕ} (rs : List ℕ) {i : ℕ} (count : ℕ) {v : ℕ} → SeekReady ws ms rs i v count →
+    CallSought ws i (rowsFrom rs 0 count) → Searched ws ms rs i count v 0
+unfolding rowsFrom
+search-starts {ws} {ms} rs {i} count r s =
+    let none-left : count - count ≡ 0 = omega arith in
+    record {
+      asked = s;
+      by = r .by;
+      high = count;
+      within = omega arith;
+      here = r .first;
+      past = rw none-left (none-found ws ms i);
+    }
 
 -- ---- a call at a node of a table
 
-module _ {ws rs : List ℕ} {n i count : ℕ} (ready : CallReady ws rs n i count) where
+module _ {ws ms rs : List ℕ} {n i : ℕ} {s : State} (ready : CallReady ws ms rs n i s) where
   table-comparable : (b : ℕ) → b < n → Comparable ws b
   table-comparable b h =
       let t = ready .table in
       record { laid = t .laid b h; ends = omega (arith, t .whole b h, t .few) }
 
-  pub ready-sought : CallSought ws i (rowsFrom rs 0 count)
+  pub ready-comparable : Comparable ws i
+  ready-comparable = table-comparable i (ready .within)
+
+  pub ready-sought : CallSought ws i (rowsFrom rs 0 (s .count))
   ready-sought =
+      let rows = rowsFrom rs 0 (s .count) in
       record {
-        tree = table-comparable i (ready .within);
+        tree = ready-comparable;
         called = ready .called;
-        placed = roots-map (λ b. b < n) (Comparable ws) table-comparable (rowsFrom rs 0 count) (ready .placed);
-        named = ready .named;
+        placed = roots-map (λ b. b < n) (Comparable ws) table-comparable rows (ready .placed);
+        named = named-up (s .next) temporaryLimit (omega (arith, ready .low)) rows (ready .named);
       }
 
-  ready-fresh : {temporary : ℕ → Loc} → Fresh temporary ws n → CallFresh temporary ws i (rowsFrom rs 0 count)
+  ready-fresh : {temporary : ℕ → Loc} → Fresh temporary ws n → CallFresh temporary ws i (rowsFrom rs 0 (s .count))
   ready-fresh f =
       let whole = ready .table .whole in
       record {
         nodes = n;
         fresh = f;
         tree = whole i (ready .within);
-        trees = roots-map (λ b. b < n) (λ b. endAt ws b ≤ n) whole (rowsFrom rs 0 count) (ready .placed);
+        trees = roots-map (λ b. b < n) (λ b. endAt ws b ≤ n) whole (rowsFrom rs 0 (s .count)) (ready .placed);
       }
 
-  module _ {sharing : Bool} {ms : List ℕ} {m next : ℕ} (h : CallFound sharing ws ms i (rowsFrom rs 0 count) m) where
-    pub broken-found : m ≢ 0 → All (NumberedBelow next) (rowsFrom rs 0 count) →
-        CallBroken sharing ws ms rs rs n i next count next count 1 m
-    broken-found e b =
-        found refl refl refl refl (omega (arith, e)) (h .mark next b)
-        (λ temporary f. h .is temporary (ready-fresh f) ∙ found-some temporary m e)
+  -- with sharing off none is sought
+  pub broken-off : {sharing : Bool} {rs′ hs : List ℕ} {r : Trimmed} → sharing ≡ false → CallMade rs rs′ i s 0 r →
+      CallBroken sharing ws ms rs rs′ hs hs n i s r
+  broken-off off x = rw off (made 0 x (λ temporary f. refl) refl (λ e. absurd (false≢true e)))
 
-    pub broken-made : {rs′ : List ℕ} → m ≡ 0 → rs′ ≡ sets rs (3 * count) (rowWords (Made next i)) →
-        CallBroken sharing ws ms rs rs′ n i next count (next + 1) (count + 1) 1 (next + 1)
-    broken-made e q = made q refl refl refl refl (λ temporary f. rw e at (h .is temporary (ready-fresh f)))
+  -- with sharing on it is, by its mix
+  module _ {hs : List ℕ} (keyed : Keyed ws ms rs hs (s .count)) {m at : ℕ} (ours : SeenMix ws ms i m) (e : at ≡ slot m) where
+    pub slot-low : at < nodeLimit
+    slot-low = omega arith
+
+    pub chain-sought : {v : ℕ} → v ≡ getD hs at 0 → SeekReady ws ms rs i v (s .count)
+    chain-sought u =
+        rw (u, e)
+        record {
+          by = record { key = keyed .key; mixed = keyed .mixed; goes = keyed .goes; mix = m; ours = ours };
+          first = keyed .starts (slot m) (omega arith);
+        }
+
+    pub chain-low : getD hs at 0 ≤ s .count
+    chain-low = rw e (keyed .starts (slot m) (omega arith) .below)
+
+    module _ {z : ℕ} (h : CallFound ws ms i (rowsFrom rs 0 (s .count)) z) where
+      pub broken-found : z ≢ 0 → {r : Trimmed} → r ≡ record { next = s .next; count = s .count; ershov = 1; temp = z } →
+          CallBroken true ws ms rs rs hs hs n i s r
+      broken-found q u =
+          found refl refl z u (omega (arith, q)) (h .mark (s .next) (ready .named))
+          (λ temporary f. h .is temporary (ready-fresh f) ∙ found-some temporary z q)
+
+      pub broken-made : z ≡ 0 → {rs′ : List ℕ} {r : Trimmed} → CallMade rs rs′ i s (getD hs at 0) r →
+          CallBroken true ws ms rs rs′ hs (set hs at (s .count + 1)) n i s r
+      broken-made q x =
+          made (getD hs at 0) x (λ temporary f. rw q at (h .is temporary (ready-fresh f)))
+          (length-set hs at (s .count + 1)) (λ on. rw (x .put, e) (keyed-called i m (s .next) (ready .long) (ready .few) ours keyed))

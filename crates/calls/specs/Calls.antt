@@ -4,18 +4,22 @@ use Prim.Native.Nat.{ℕ, _+_, _-_, _*_, _<_, _≤_}
 use mathlib.Core.Bool.{Bool, cond, true}
 use mathlib.Core.List.{List}
 use mathlib.Core.Option.{Option, none, some}
+use lib.ListN.{length}
 use lib.Seq.{sets}
 use lib.Dec.{eqb}
-use Rattle.limits.specs.Limits.{rowLimit, temporaryLimit}
+use Rattle.limits.specs.Limits.{rowLimit, rowsLength, temporaryLimit}
 use Rattle.symbol.specs.declared.Loc.{Loc}
 use Rattle.definitions.specs.Trim.{seek}
 use Rattle.node.specs.Nodes.{nodeAt, endAt, isFunction, Table}
 use Rattle.node.specs.Views.{seen, Fresh}
 use Rattle.statement.specs.declared.Row.{Row}
-use Rattle.statement.specs.declared.Row.the-variants.{Made}
-use Rattle.statement.specs.Rows.{rowWords, rowsFrom, statementsOf}
+use Rattle.statement.specs.declared.State.{State}
+use Rattle.statement.specs.Rows.{callWords, rowsFrom, statementsOf}
 use Rattle.statement.specs.Rowing.{All, OnRoot, NumberedBelow}
 use Rattle.compare.specs.Comparison.{Comparable}
+use Rattle.keys.specs.Keys.{MarksLow}
+use Rattle.calls.specs.declared.Trimmed.{Trimmed}
+use Rattle.calls.specs.Index.{Indexed}
 
 -- the call at node i is sought among rows: they have roots to compare, and numbers
 pub record CallSought (ws : List ℕ) (i : ℕ) (rows : List Row) : Type 0 where
@@ -32,6 +36,9 @@ sought sharing temporary ws ms i rows = cond sharing (seek (seen temporary ws ms
 abbrev pub foundAs : (temporary : ℕ → Loc) (m : ℕ) → Option Loc
 foundAs temporary m = cond (eqb m 0) none (some (temporary (m - 1)))
 
+abbrev pub orElse : (m later : ℕ) → ℕ
+orElse m later = cond (eqb m 0) later m
+
 -- temporaries are no variables of the call's tree and of the rows' trees
 pub record CallFresh (temporary : ℕ → Loc) (ws : List ℕ) (i : ℕ) (rows : List Row) : Type 0 where
   pub nodes : ℕ
@@ -40,26 +47,34 @@ pub record CallFresh (temporary : ℕ → Loc) (ws : List ℕ) (i : ℕ) (rows :
   pub trees : All (OnRoot (λ b. endAt ws b ≤ nodes)) rows
 
 -- what the search answers, whatever places the temporaries have
-pub record CallFound (sharing : Bool) (ws ms : List ℕ) (i : ℕ) (rows : List Row) (m : ℕ) : Type 0 where
+pub record CallFound (ws ms : List ℕ) (i : ℕ) (rows : List Row) (m : ℕ) : Type 0 where
   pub mark : (next : ℕ) → All (NumberedBelow next) rows → m ≤ next
-  pub is : (temporary : ℕ → Loc) → CallFresh temporary ws i rows → sought sharing temporary ws ms i rows ≡ foundAs temporary m
+  pub is : (temporary : ℕ → Loc) → CallFresh temporary ws i rows → sought true temporary ws ms i rows ≡ foundAs temporary m
 
--- a call at node i of a table may be broken out
-pub record CallReady (ws rs : List ℕ) (n i count : ℕ) : Type 0 where
+-- a call at node i of a table may be broken out, after so many rows and temporaries
+pub record CallReady (ws ms rs : List ℕ) (n i : ℕ) (s : State) : Type 0 where
   pub table : Table ws n
   pub within : i < n
   pub called : isFunction (nodeAt ws i) ≡ true
-  pub few : count ≤ rowLimit
-  pub placed : All (OnRoot (λ b. b < n)) (rowsFrom rs 0 count)
-  pub named : All (NumberedBelow temporaryLimit) (rowsFrom rs 0 count)
+  pub few : s .count < rowLimit
+  pub low : s .next < temporaryLimit
+  pub long : length rs ≡ rowsLength
+  pub marks : MarksLow ms
+  pub placed : All (OnRoot (λ b. b < n)) (rowsFrom rs 0 (s .count))
+  pub named : All (NumberedBelow (s .next)) (rowsFrom rs 0 (s .count))
 
--- it was: an earlier call gives its temporary, or a row is put for it
-pub data CallBroken (sharing : Bool) (ws ms rs rs′ : List ℕ) (n i next count next′ count′ er temp : ℕ) : Type 0 where
-  found : rs′ ≡ rs → next′ ≡ next → count′ ≡ count → er ≡ 1 → 0 < temp → temp ≤ next
+-- a row was put for it, with a link
+pub record CallMade (rs rs′ : List ℕ) (i : ℕ) (s : State) (link : ℕ) (r : Trimmed) : Type 0 where
+  pub put : rs′ ≡ sets rs (3 * s .count) (callWords link (s .next) i)
+  pub answer : r ≡ record { next = s .next + 1; count = s .count + 1; ershov = 1; temp = s .next + 1 }
+
+-- it was broken out: an earlier call gives its temporary, or a row is put for it
+pub data CallBroken (sharing : Bool) (ws ms rs rs′ hs hs′ : List ℕ) (n i : ℕ) (s : State) (r : Trimmed) : Type 0 where
+  found : rs′ ≡ rs → hs′ ≡ hs → (m : ℕ) → r ≡ record { next = s .next; count = s .count; ershov = 1; temp = m } → 0 < m → m ≤ s .next
       → ((temporary : ℕ → Loc) → Fresh temporary ws n →
-      sought sharing temporary ws ms i (rowsFrom rs 0 count) ≡ some (temporary (temp - 1)))
-      → CallBroken sharing ws ms rs rs′ n i next count next′ count′ er temp
-  made : rs′ ≡ sets rs (3 * count) (rowWords (Made next i)) → next′ ≡ next + 1 → count′ ≡ count + 1 → er ≡ 1
-      → temp ≡ next + 1
-      → ((temporary : ℕ → Loc) → Fresh temporary ws n → sought sharing temporary ws ms i (rowsFrom rs 0 count) ≡ none)
-      → CallBroken sharing ws ms rs rs′ n i next count next′ count′ er temp
+      sought sharing temporary ws ms i (rowsFrom rs 0 (s .count)) ≡ some (temporary (m - 1)))
+      → CallBroken sharing ws ms rs rs′ hs hs′ n i s r
+  made : (link : ℕ) → CallMade rs rs′ i s link r
+      → ((temporary : ℕ → Loc) → Fresh temporary ws n → sought sharing temporary ws ms i (rowsFrom rs 0 (s .count)) ≡ none)
+      → length hs′ ≡ length hs → Indexed sharing ws ms rs′ hs′ (s .count + 1)
+      → CallBroken sharing ws ms rs rs′ hs hs′ n i s r

@@ -16,7 +16,7 @@ use Rattle.node.specs.declared.Node.{Node}
 use Rattle.node.specs.declared.Node.the-variants.{Const, Var, Unary, Binary}
 use Rattle.node.specs.Nodes.{nodeAt, nodeTree, tree, Table}
 use Rattle.node.proofs.Heads.{node-sized}
-use Rattle.mix.specs.Mix.{oneMix, twoMix, mix}
+use Rattle.mix.specs.Mix.{variableMix, oneMix, twoMix, mixBy, mix}
 use Rattle.mix.proofs.SameMixes.{mixes-apart}
 use Rattle.numbers.specs.Filled.{at, OnSides, Filled}
 use Rattle.numbers.proofs.TableSides.{Between, sides-more, tree-node, sides-between}
@@ -35,7 +35,7 @@ sides-inside {ws} {n} {i} t l e =
 
 mix-node : (f : ℕ → ℕ) (T : ℕ → Tree) (P : ℕ → Type 0) → ((a : ℕ) → P a → f a ≡ mix (T a)) →
     (i : ℕ) (x : Node) → OnSides P i x → nodeMix f i x ≡ mix (nodeTree T i x)
-unfolding mix
+unfolding mixBy
 mix-node f T P h i (Const k) s = refl
 mix-node f T P h i (Var p) s = refl
 mix-node f T P h i (Unary o) s = ap (oneMix o) (h (i + 1) s)
@@ -148,7 +148,7 @@ module _ (ws mx heads chain cs : List ℕ) (n : ℕ) (t : Table ws n) (x : Sough
       go : (b : Bool) → eqb (x .mix) (at mx j) ≡ b → (b && equalCopies (x .copy) (copyOf (at cs) j (nodeAt ws j))) ≡ false →
           same (tree ws i) (tree ws j) ≡ false
       go true p q = sym (same-now j h k) ∙ q
-      go false p q = mixes-apart (tree ws i) (tree ws j) (sym (ap₂ eqb mix-now (old .mixed j h k)) ∙ p)
+      go false p q = mixes-apart variableMix (tree ws i) (tree ws j) (sym (ap₂ eqb mix-now (old .mixed j h k)) ∙ p)
 
   -- what the search gave
   module _ {r : ℕ} (found : ClassFound (alike ws cs mx x) cs i n r) where

@@ -21,7 +21,7 @@ use Rattle.node.proofs.Nodes.{Side, laid-up, laid-room, laid-sides}
 use Rattle.node.proofs.Views.{seen-node}
 use Rattle.compare.specs.Comparison.{Comparable, TwoTrees, FourSides, SameSeen, SameView, sameSides, SideViews}
 
-side-comparable : {ws : List ℕ} {i j : ℕ} → Comparable ws i → Side ws sideLimit i j → Comparable ws j
+pub side-comparable : {ws : List ℕ} {i j : ℕ} → Comparable ws i → Side ws sideLimit i j → Comparable ws j
 side-comparable {ws} {i} {j} h s =
     record { laid = laid-up ws sideLimit depthLimit j (s .laid) (omega arith); ends = omega (arith, s .ends, h .ends) }
 

@@ -33,7 +33,7 @@ node-low h = tree-starts h (h .ends)
 -- ---- temporaries and nodes
 
 -- places that differ are not the same
-different : (p q : Loc) → p ≢ q → samePlace p q ≡ false
+pub different : (p q : Loc) → p ≢ q → samePlace p q ≡ false
 different p q h = go (samePlace p q) refl
   where
     go : (b : Bool) → samePlace p q ≡ b → b ≡ false

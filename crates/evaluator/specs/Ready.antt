@@ -8,9 +8,9 @@ use Rattle.header.specs.Settings.{Indexed}
 use Rattle.words.specs.Pushed.{wordsEnd}
 use Rattle.node.specs.Nodes.{endAt}
 use Rattle.node.specs.Views.{Marked}
-use Rattle.ershov.specs.Number.{Near}
+use Rattle.ershov.specs.Number.{Known}
 use Rattle.evaluator.specs.declared.Target.{Target}
-use Rattle.evaluator.specs.declared.Sides.{Sides}
+use Rattle.evaluator.specs.declared.Over.{Over}
 
 -- the temporaries of the marks are indexed
 abbrev pub MarksIndexed : Header → (ms : List ℕ) → Type 0
@@ -27,10 +27,10 @@ pub record EmitReady (h : Header) (ms : List ℕ) (levels base at nodes : ℕ) :
   pub counted : at + 6 * opsPerNode * nodes ≤ wordsEnd
 
 -- a node, and an operation over two sides
-abbrev pub NodeReady : Header → (ws ms : List ℕ) (i : ℕ) → Target → Type 0
-NodeReady h ws ms i to = Near (to .depth) ws i × EmitReady h ms (to .depth) (to .base) (to .at) (span ws i)
+abbrev pub NodeReady : Header → (ws ms es : List ℕ) (i : ℕ) → Target → Type 0
+NodeReady h ws ms es i to = Known (to .depth) ws ms es i × EmitReady h ms (to .depth) (to .base) (to .at) (span ws i)
 
-pub record SidesReady (h : Header) (ws ms : List ℕ) (s : Sides) (to : Target) : Type 0 where
-  pub left : Near (to .depth) ws (s .left)
-  pub right : Near (to .depth) ws (s .right)
+pub record SidesReady (h : Header) (ws ms es : List ℕ) (s : Over) (to : Target) : Type 0 where
+  pub left : Known (to .depth) ws ms es (s .left)
+  pub right : Known (to .depth) ws ms es (s .right)
   pub ready : EmitReady h ms (to .depth + 1) (to .base) (to .at) (span ws (s .left) + span ws (s .right) + 1)

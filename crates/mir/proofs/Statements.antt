@@ -86,8 +86,8 @@ module _ (h : Header) (ms : List ℕ) (p : Loc) {ws : List ℕ} {i : ℕ} {n : N
 
 -- ---- the row that an arm was chosen by
 
-pub row-fits : (h : Header) (ws : List ℕ) {r m : Row} → r ≡ m → RowFits h ws r → RowFits h ws m
-row-fits h ws e x = rw e at x
+pub row-fits : (h : Header) (ws ms es : List ℕ) {r m : Row} → r ≡ m → RowFits h ws ms es r → RowFits h ws ms es m
+row-fits h ws ms es e x = rw e at x
 
 -- at the place that was found
 pub assign-at : (t : Tree) {p q : Loc} → p ≡ q → assign p t ≡ assign q t

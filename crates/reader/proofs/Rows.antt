@@ -1,8 +1,9 @@
 -- The words and rows that reading stores: the nodes of the statements' trees, and each statement by its row.
 use Prim.Native.Nat.{ℕ, zero, suc, _+_, _*_, _<_}
 use native.Mathlib.Omega.{arith}
+use native.Mathlib.Nat.{add-zero}
 use mathlib.Core.List.{List, [], _∷_, _++_, map}
-use mathlib.Core.Path.{_≡_, refl, ap, ap₂}
+use mathlib.Core.Path.{_≡_, refl, sym, ap, ap₂, _∙_}
 use lib.ListN.{length, getD}
 use Rattle.limits.specs.Limits.{indexEnd}
 use Rattle.symbol.specs.declared.Loc.{Loc}
@@ -15,7 +16,7 @@ use Rattle.definitions.proofs.Reading.{SheetPlace, SheetStatements}
 use Rattle.node.specs.Nodes.{tree, layout, layoutAll, roots}
 use Rattle.node.proofs.Stores.{Has, has-right}
 use Rattle.statement.specs.declared.Row.the-variants.{Given}
-use Rattle.statement.specs.Rows.{rowWords, placeAt, rootAt, sheetFrom}
+use Rattle.statement.specs.Rows.{rowWords, rowAt, placeAt, rootAt, sheetFrom}
 use Rattle.reader.specs.Reads.{statementWords, statementRows}
 
 pub cons-head : {A : Type 0} {x y : A} {xs ys : List A} → x ∷ xs ≡ y ∷ ys → x ≡ y
@@ -60,6 +61,20 @@ module _ (first : ℕ) where
         let z : j + suc k ≡ j + 1 + k = omega arith in
         rw z (root-is (j + 1) (n + weight t) ss (h .1) (rows-after j n p t ss has) k (omega arith))
     root-is j n (call p c ∷ ss) h has k l = absurd (h .0)
+
+    -- a row is a statement's
+    pub given-is : (j n : ℕ) (ss : List Statement) → SheetStatements first ss → Has rows (3 * j) (statementRows n ss)
+        → (k : ℕ) → k < length ss → rowAt rows (j + k) ≡ Given (placeAt rows (j + k)) (rootAt rows (j + k))
+    unfolding SheetStatements statementRows
+    given-is j n [] h has k l = absurd (omega arith)
+    given-is j n (assign p t ∷ ss) h has zero l =
+        let z : j + 0 ≡ j = omega arith in
+        let kind : getD rows (3 * j) 0 ≡ 1 = ap (λ (m : ℕ). getD rows m 0) (sym (add-zero (3 * j))) ∙ has 0 (omega arith) in
+        rw (z, kind) refl
+    given-is j n (assign p t ∷ ss) h has (suc k) l =
+        let z : j + suc k ≡ j + 1 + k = omega arith in
+        rw z (given-is (j + 1) (n + weight t) ss (h .1) (rows-after j n p t ss has) k (omega arith))
+    given-is j n (call p c ∷ ss) h has k l = absurd (h .0)
 
     -- over the nodes of the trees the rows are the statements
     pub rows-stand : (ws : List ℕ) (j n : ℕ) (ss : List Statement) → SheetStatements first ss

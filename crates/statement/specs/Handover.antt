@@ -2,19 +2,20 @@
 use mathlib.Core.Path.{_≡_}
 use mathlib.Core.Logic.{_≢_}
 use Prim.Native.Nat.{ℕ, _+_, _*_, _<_, _≤_}
+use mathlib.Core.Bool.{Bool}
 use mathlib.Core.Option.{some}
 use mathlib.Core.List.{List, []}
 use lib.ListN.{length, getD, getElem?}
 use Rattle.limits.specs.Limits.{statementLimit, nodeLimit, rowLimit, rowsLength, temporaryLimit}
 use Rattle.symbol.specs.declared.Loc.{Loc}
-use Rattle.header.specs.declared.Header.{Header}
 use Rattle.definitions.specs.Tree.{Tree}
 use Rattle.definitions.specs.Trim.{trimAll}
 use Rattle.node.specs.Marks.{markOf}
 use Rattle.node.specs.Nodes.{endAt, tree, Table}
 use Rattle.node.specs.Views.{Marked, Fresh, zeros}
+use Rattle.statement.specs.declared.Row.the-variants.{Given}
 use Rattle.statement.specs.declared.State.{State}
-use Rattle.statement.specs.Rows.{rowAt, rootAt, rowsFrom, statementsOf}
+use Rattle.statement.specs.Rows.{rowAt, placeAt, rootAt, rowsFrom, statementsOf}
 use Rattle.statement.specs.Rowing.{All, OnRoot, OnGiven, Unmade, NumberedBelow, spent}
 
 -- every tree that begins before node i ends there or before it
@@ -25,6 +26,7 @@ Closed ws i = (z : ℕ) → z < i → endAt ws z ≤ i
 pub record SheetHeld (ws rows : List ℕ) (n count : ℕ) : Type 0 where
   pub table : Table ws n
   pub few : count ≤ statementLimit
+  pub given : (j : ℕ) → j < count → rowAt rows j ≡ Given (placeAt rows j) (rootAt rows j)
   pub roots : (j : ℕ) → j < count → rootAt rows j < n
   pub order : (i j : ℕ) → i < j → j < count → rootAt rows i < rootAt rows j
   pub closed : (j : ℕ) → j < count → Closed ws (rootAt rows j)
@@ -64,9 +66,9 @@ pub record SheetEliminated (ws ms rows : List ℕ) (n : ℕ) (s : State) : Type 
   pub distinct : (j k : ℕ) → j < k → k < s .count → OnRoot (λ x. OnRoot (λ y. x ≢ y) (rowAt rows k)) (rowAt rows j)
 
 -- the rows that trimming put out, and the next temporary: the definition's statements, whatever places the temporaries have
-pub record SheetTrimmed (h : Header) (ws ms ms′ rows rows′ : List ℕ) (n : ℕ) (s s′ : State) : Type 0 where
+pub record SheetTrimmed (sharing : Bool) (scratch : ℕ) (ws ms ms′ rows rows′ : List ℕ) (n : ℕ) (s s′ : State) : Type 0 where
   pub trimmed : (temporary : ℕ → Loc) → Fresh temporary ws n
-      → trimAll (h .sharing) (h .scratch) temporary (s .next) [] (statementsOf temporary ws ms (rowsFrom rows 0 (s .count)))
+      → trimAll sharing scratch temporary (s .next) [] (statementsOf temporary ws ms (rowsFrom rows 0 (s .count)))
       ≡ record { next = s′ .next; statements = statementsOf temporary ws ms′ (rowsFrom rows′ 0 (s′ .count)) }
   pub wide : length ms′ ≡ nodeLimit
   pub long : length rows′ ≡ rowsLength

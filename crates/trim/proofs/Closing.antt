@@ -14,7 +14,7 @@ use Rattle.node.proofs.Nodes.{equal-or}
 use Rattle.statement.specs.declared.Row.{Row}
 use Rattle.statement.specs.declared.Row.the-variants.{Given, Copied, Kept, Passed, Made}
 use Rattle.statement.specs.Rows.{rowStatement}
-use Rattle.statement.specs.Rowing.{OnRoot, NumberedBelow}
+use Rattle.statement.specs.Rowing.{OnRoot, Unmade, NumberedBelow}
 use Rattle.trim.specs.Sheet.{closed}
 
 pub closed-zero : (row : Row) (t : ℕ) → t ≡ 0 → row ≡ closed row t
@@ -41,6 +41,7 @@ pub record TreeRow (row : Row) (i : ℕ) : Type 1 where
   pub out : (P : ℕ → Type 0) → OnRoot P row → P i
   pub root : (t : ℕ) (P : ℕ → Type 0) → P i → OnRoot P (closed row t)
   pub low : (t next : ℕ) → t ≤ next → NumberedBelow next row → NumberedBelow next (closed row t)
+  pub unmade : (t : ℕ) → Unmade (closed row t)
 
 pub given-row : (q i : ℕ) → TreeRow (Given q i) i
 given-row q i =
@@ -51,6 +52,7 @@ given-row q i =
       out = λ P h. h;
       root = λ t P h. equal-or t 0 (λ e. rw e h) (λ e. rw (ne-eqb t 0 e) tt);
       low = λ t next l h. equal-or t 0 (λ e. rw e tt) (λ e. rw (ne-eqb t 0 e) (omega (arith, e)));
+      unmade = λ t. equal-or t 0 (λ e. rw e tt) (λ e. rw (ne-eqb t 0 e) tt);
     }
 
 pub kept-row : (m i : ℕ) → TreeRow (Kept m i) i
@@ -62,6 +64,7 @@ kept-row m i =
       out = λ P h. h;
       root = λ t P h. equal-or t 0 (λ e. rw e h) (λ e. rw (ne-eqb t 0 e) tt);
       low = λ t next l h. equal-or t 0 (λ e. rw e h) (λ e. rw (ne-eqb t 0 e) (h, omega (arith, e)));
+      unmade = λ t. equal-or t 0 (λ e. rw e tt) (λ e. rw (ne-eqb t 0 e) tt);
     }
 
 -- a row that assigns a temporary to a place
@@ -71,6 +74,7 @@ pub record VariableRow (row : Row) : Type 1 where
   pub whole : (temporary : ℕ → Loc) (ws ms : List ℕ) →
       rowStatement temporary ws ms row ≡ assign (place temporary) (variable (source temporary))
   pub root : (P : ℕ → Type 0) → OnRoot P row
+  pub unmade : Unmade row
 
 pub copied-row : (q k : ℕ) → VariableRow (Copied q k)
 copied-row q k =
@@ -79,6 +83,7 @@ copied-row q k =
       source = λ temporary. temporary k;
       whole = λ temporary ws ms. refl;
       root = λ P. tt;
+      unmade = tt;
     }
 
 pub passed-row : (m k : ℕ) → VariableRow (Passed m k)
@@ -88,4 +93,5 @@ passed-row m k =
       source = λ temporary. temporary k;
       whole = λ temporary ws ms. refl;
       root = λ P. tt;
+      unmade = tt;
     }

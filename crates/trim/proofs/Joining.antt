@@ -4,7 +4,7 @@ use mathlib.Core.Bool.{false}
 use mathlib.Core.List.{List}
 use Prim.Native.Nat.{ℕ, _+_}
 use native.Mathlib.Omega.{arith}
-use Rattle.header.specs.declared.Header.{Header}
+use Rattle.calls.specs.declared.Settings.{Settings}
 use Rattle.operation.specs.Operators.{isFunction2}
 use Rattle.operation.specs.declared.Two.{Two}
 use Rattle.node.specs.declared.Node.the-variants.{Binary as BinaryNode}
@@ -15,9 +15,9 @@ use Rattle.trim.specs.Joining.{JoinReady, SidesJoined, stored, joined}
 use Rattle.trim.proofs.TwoSides.{sides, two-joined}
 use Rattle.trim.proofs.Storing.{store-room, two-stored}
 
-module _ {h : Header} {ws ms rs : List ℕ} {n i r : ℕ} {p p1 : Progress} {o : Two} {a b : Answer} (ready : TrimReady h ws n (i + 1) i p)
+module _ {h : Settings} {ws ms rs hs : List ℕ} {n i r : ℕ} {p p1 : Progress} {o : Two} {a b : Answer} (ready : TrimReady h ws n (i + 1) i p)
     (e : nodeAt ws i ≡ BinaryNode o r) (x : ViewTrimmed h ws n (i + 1) p p1 a)
-    (y : ViewTrimmed h ws n r p1 (progress ms rs (stateOf b)) b) where
+    (y : ViewTrimmed h ws n r p1 (progress ms rs hs (stateOf b)) b) where
   pub join-ready : JoinReady h (i + 1) r (a .ershov) b
   join-ready =
       record {
@@ -28,7 +28,7 @@ module _ {h : Header} {ws ms rs : List ℕ} {n i r : ℕ} {p p1 : Progress} {o :
       }
 
   pub join-trimmed : {ms′ rs′ : List ℕ} {z : Answer} → isFunction2 o ≡ false →
-      SidesJoined h (i + 1) r (a .ershov) b (progress ms rs (stateOf b)) (progress ms′ rs′ (stateOf z)) z →
-      NodeTrimmed h ws n i p (progress ms′ rs′ (stateOf z)) z
+      SidesJoined h (i + 1) r (a .ershov) b ms rs ms′ rs′ z →
+      NodeTrimmed h ws n i p (progress ms′ rs′ hs (stateOf z)) z
   join-trimmed {rs′} q (stored full s) = rw (s .marks, s .answer) (two-stored ready e x y full (s .middle) rs′ q (s .left) (s .right))
   join-trimmed q (joined rest m w k) = rw (m, w, k) (two-joined ready e x y _ q rest refl)

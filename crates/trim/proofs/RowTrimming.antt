@@ -6,7 +6,7 @@ use native.Mathlib.Omega.{arith}
 use lib.ListN.{getD}
 use Rattle.limits.specs.Limits.{rowLimit}
 use Rattle.symbol.specs.declared.Loc.{Loc}
-use Rattle.header.specs.declared.Header.{Header}
+use Rattle.calls.specs.declared.Settings.{Settings}
 use Rattle.definitions.specs.Tree.{ershov}
 use Rattle.definitions.specs.Trim.{trim}
 use Rattle.node.specs.Views.{masked, seen, view, zeros}
@@ -22,7 +22,7 @@ use Rattle.statement.proofs.RowsSpent.{row-spends}
 use Rattle.trim.proofs.Closing.{closed-zero}
 use Rattle.trim.proofs.Trimming.{result}
 
-module _ {h : Header} {ws : List ℕ} {n : ℕ} {p : Progress} {row : Row} (ready : RowReady h ws n p row) where
+module _ {h : Settings} {ws : List ℕ} {n : ℕ} {p : Progress} {row : Row} (ready : RowReady h ws n p row) where
   -- ---- a sheet's statement: its root has no mark, and gets one
 
   module _ {q i : ℕ} (told : row ≡ Given q i) where
@@ -32,7 +32,7 @@ module _ {h : Header} {ws : List ℕ} {n : ℕ} {p : Progress} {row : Row} (read
     blank : getD (p .marks) i 0 ≡ 0
     blank = rw told at (ready .blank)
 
-    module _ {ms rs : List ℕ} {a : Answer} (x : ViewTrimmed h ws n i p (progress ms rs (stateOf a)) a) where
+    module _ {ms rs hs : List ℕ} {a : Answer} (x : ViewTrimmed h ws n i p (progress ms rs hs (stateOf a)) a) where
       given-cost : a .count + zeros ms n + 1 ≤ p .state .count + zeros (p .marks) n + 1
       given-cost = x .tree .so .counted
 
@@ -42,7 +42,7 @@ module _ {h : Header} {ws : List ℕ} {n : ℕ} {p : Progress} {row : Row} (read
       named : (temporary : ℕ → Loc) → view temporary ws ms i ≡ masked temporary (a .temp) (seen temporary ws ms i)
       named temporary = ap (λ (m : ℕ). masked temporary m (seen temporary ws ms i)) (sym (x .named))
 
-      unmarked-tree : TreeTrimmed h ws n i i p (progress ms rs (stateOf a)) (λ temporary. seen temporary ws (p .marks) i)
+      unmarked-tree : TreeTrimmed h ws n i i p (progress ms rs hs (stateOf a)) (λ temporary. seen temporary ws (p .marks) i)
           (λ temporary. masked temporary (a .temp) (seen temporary ws ms i)) (a .ershov) 0
       unmarked-tree =
           record {
@@ -57,11 +57,11 @@ module _ {h : Header} {ws : List ℕ} {n : ℕ} {p : Progress} {row : Row} (read
           }
 
       pub given-trimmed : {rs′ : List ℕ} {s s′ : State} → s ≡ stateOf a →
-          RowPut rs rs′ s s′ (closed (Given q i) (a .temp)) → RowTrimmed h ws n p (progress ms rs′ s′) row
+          RowPut rs rs′ s s′ (closed (Given q i) (a .temp)) → RowTrimmed h ws n p (progress ms rs′ hs s′) row
       given-trimmed e put =
           rw told
           record {
-            middle = progress ms rs (stateOf a);
+            middle = progress ms rs hs (stateOf a);
             er = a .ershov;
             temp = a .temp;
             left = 0;
@@ -69,6 +69,7 @@ module _ {h : Header} {ws : List ℕ} {n : ℕ} {p : Progress} {row : Row} (read
             cost = given-cost;
             mark = omega (arith, x .named, x .tree .so .small i);
             marks = refl;
+            index = refl;
             put = rw e at put;
           }
 
@@ -78,7 +79,7 @@ module _ {h : Header} {ws : List ℕ} {n : ℕ} {p : Progress} {row : Row} (read
     pub kept-ready : TrimReady h ws n (i + 1) i p
     kept-ready = rw told at (ready .part)
 
-    module _ {ms rs : List ℕ} (a : Answer) (x : NodeTrimmed h ws n i p (progress ms rs (stateOf a)) a) where
+    module _ {ms rs hs : List ℕ} (a : Answer) (x : NodeTrimmed h ws n i p (progress ms rs hs (stateOf a)) a) where
       kept-cost : a .count + zeros ms n + 1 ≤ p .state .count + zeros (p .marks) n + 2
       kept-cost = omega (arith, x .so .counted)
 
@@ -86,11 +87,11 @@ module _ {h : Header} {ws : List ℕ} {n : ℕ} {p : Progress} {row : Row} (read
       kept-room e = let c : a .count < rowLimit = omega (arith, kept-cost, rw told at (ready .room)) in rw e c
 
       pub kept-trimmed : {rs′ : List ℕ} {s s′ : State} → s ≡ stateOf a →
-          RowPut rs rs′ s s′ (closed (Kept m i) (a .temp)) → RowTrimmed h ws n p (progress ms rs′ s′) row
+          RowPut rs rs′ s s′ (closed (Kept m i) (a .temp)) → RowTrimmed h ws n p (progress ms rs′ hs s′) row
       kept-trimmed e put =
           rw told
           record {
-            middle = progress ms rs (stateOf a);
+            middle = progress ms rs hs (stateOf a);
             er = a .ershov;
             temp = a .temp;
             left = a .temp;
@@ -98,6 +99,7 @@ module _ {h : Header} {ws : List ℕ} {n : ℕ} {p : Progress} {row : Row} (read
             cost = kept-cost;
             mark = x .so .mark;
             marks = refl;
+            index = refl;
             put = rw e at put;
           }
 
@@ -110,11 +112,11 @@ module _ {h : Header} {ws : List ℕ} {n : ℕ} {p : Progress} {row : Row} (read
     copied : RowPut (p .words) rs′ (p .state) s′ row
     copied = rw (closed-zero row 0 refl) put
 
-    pub copied-trimmed : {q k : ℕ} → row ≡ Copied q k → RowTrimmed h ws n p (progress (p .marks) rs′ s′) row
-    copied-trimmed e = rw e record { marks = refl; put = rw e at copied }
+    pub copied-trimmed : {q k : ℕ} → row ≡ Copied q k → RowTrimmed h ws n p (progress (p .marks) rs′ (p .index) s′) row
+    copied-trimmed e = rw e record { marks = refl; index = refl; put = rw e at copied }
 
-    pub passed-trimmed : {m k : ℕ} → row ≡ Passed m k → RowTrimmed h ws n p (progress (p .marks) rs′ s′) row
-    passed-trimmed e = rw e record { marks = refl; put = rw e at copied }
+    pub passed-trimmed : {m k : ℕ} → row ≡ Passed m k → RowTrimmed h ws n p (progress (p .marks) rs′ (p .index) s′) row
+    passed-trimmed e = rw e record { marks = refl; index = refl; put = rw e at copied }
 
-    pub made-trimmed : {m i : ℕ} → row ≡ Made m i → RowTrimmed h ws n p (progress (p .marks) rs′ s′) row
-    made-trimmed e = rw e record { marks = refl; put = rw e at copied }
+    pub made-trimmed : {m i : ℕ} → row ≡ Made m i → RowTrimmed h ws n p (progress (p .marks) rs′ (p .index) s′) row
+    made-trimmed e = rw e record { marks = refl; index = refl; put = rw e at copied }

@@ -7,8 +7,7 @@ use native.Mathlib.Omega.{arith}
 use lib.ListN.{length, getD}
 use Rattle.limits.specs.Limits.{rowLimit, rowsLength}
 use Rattle.symbol.specs.declared.Loc.{Loc}
-use Rattle.header.specs.declared.Header.{Header}
-use Rattle.header.specs.Settings.{InScratch}
+use Rattle.calls.specs.declared.Settings.{Settings}
 use Rattle.definitions.specs.Tree.{variable}
 use Rattle.definitions.specs.Statement.{Statement, assign}
 use Rattle.definitions.specs.Trim.{Trimmed, Trimming, trim, trimAll}
@@ -20,9 +19,10 @@ use Rattle.statement.specs.declared.Row.the-variants.{Given, Copied, Kept, Pass
 use Rattle.statement.specs.declared.State.{State}
 use Rattle.statement.specs.Rows.{rowAt, rowsFrom, rowStatement, statementsOf}
 use Rattle.statement.specs.Rowing.{All, OnRoot, OnGiven, Unmade, NumberedBelow, spend, spent}
-use Rattle.statement.specs.Handover.{Owned, SheetEliminated, SheetTrimmed}
+use Rattle.statement.specs.Handover.{Owned, Unmarked, SheetEliminated, SheetTrimmed}
 use Rattle.statement.proofs.RowsPut.{statements-append}
-use Rattle.trim.specs.Trimming.{Progress, progress, rowsOf, readOf, Sound, TrimReady}
+use Rattle.calls.proofs.Keying.{keyed-none}
+use Rattle.trim.specs.Trimming.{InScratch, Progress, progress, rowsOf, readOf, Sound, TrimReady}
 use Rattle.trim.specs.Sheet.{closed, OnPart, RowReady, RootTrimmed, RowCopied, RowTrimmed}
 use Rattle.statement.proofs.EveryRow.{all-none, all-one, all-append, root-map, root-both, given-both, below-up, statements-first}
 use Rattle.trim.proofs.StillRows.{still-statements}
@@ -40,8 +40,8 @@ pub record Ahead (ws ms₀ : List ℕ) (n : ℕ) (p : Progress) (i : ℕ) : Type
   pub safe : All (OnRoot (Untouched ws (p .marks) i)) (rowsOf p)
 
 -- k of the rows er are trimmed
-pub record TrimmedSoFar (h : Header) (ws ms₀ er : List ℕ) (n : ℕ) (s₀ : State) (p : Progress) (k : ℕ) : Type 0 where
-  pub sound : Sound n p
+pub record TrimmedSoFar (h : Settings) (ws ms₀ er : List ℕ) (n : ℕ) (s₀ : State) (p : Progress) (k : ℕ) : Type 0 where
+  pub sound : Sound h ws n p
   pub room : p .state .count + zeros (p .marks) n + spent (rowsFrom er k (s₀ .count - k)) ≤ rowLimit
   pub onward : s₀ .next ≤ p .state .next
   pub ahead : (j : ℕ) → k ≤ j → j < s₀ .count → OnRoot (Ahead ws ms₀ n p) (rowAt er j)
@@ -54,21 +54,23 @@ pub record TrimmedSoFar (h : Header) (ws ms₀ er : List ℕ) (n : ℕ) (s₀ : 
 pub few-rows : {ws ms₀ er : List ℕ} {n : ℕ} {s₀ : State} → SheetEliminated ws ms₀ er n s₀ → s₀ .count ≤ rowLimit
 few-rows {er} {s₀} d = omega (arith, d .room, rows-spend er 0 (s₀ .count))
 
-module _ {h : Header} {ws ms₀ er : List ℕ} {n : ℕ} {s₀ : State} (d : SheetEliminated ws ms₀ er n s₀) where
-  pub trimmed-first : (rs : List ℕ) → length rs ≡ rowsLength →
-      TrimmedSoFar h ws ms₀ er n s₀ (progress ms₀ rs (record { next = s₀ .next; count = 0 })) 0
+module _ {h : Settings} {ws ms₀ er : List ℕ} {n : ℕ} {s₀ : State} (d : SheetEliminated ws ms₀ er n s₀) where
+  pub trimmed-first : (rs : List ℕ) {hs : List ℕ} → length rs ≡ rowsLength → Unmarked hs →
+      TrimmedSoFar h ws ms₀ er n s₀ (progress ms₀ rs hs (record { next = s₀ .next; count = 0 })) 0
   unfolding rowsFrom statementsOf
-  trimmed-first rs l =
+  trimmed-first rs {hs} l blank =
       let z : s₀ .count - 0 ≡ s₀ .count = omega arith in
       record {
         sound =
             record {
               wide = d .wide;
               long = l;
+              chains = blank .wide;
               numbered = omega (arith, d .low);
               small = d .small;
               placed = all-none _;
               named = all-none _;
+              findable = λ on. keyed-none ws ms₀ rs (blank .wide) (blank .blank);
             };
         room = rw z (omega (arith, d .room));
         onward = omega arith;
@@ -80,7 +82,7 @@ module _ {h : Header} {ws ms₀ er : List ℕ} {n : ℕ} {s₀ : State} (d : She
       }
 
   module _ {p : Progress} {k : ℕ} (g : TrimmedSoFar h ws ms₀ er n s₀ p k) where
-    pub trimmed-last : s₀ .count ≤ k → SheetTrimmed h ws ms₀ (p .marks) er (p .words) n s₀ (p .state)
+    pub trimmed-last : s₀ .count ≤ k → SheetTrimmed (h .sharing) (h .scratch) ws ms₀ (p .marks) er (p .words) n s₀ (p .state)
     unfolding rowsFrom statementsOf trimAll
     trimmed-last l =
         let z : s₀ .count - k ≡ 0 = omega arith in
@@ -141,8 +143,8 @@ module _ {h : Header} {ws ms₀ er : List ℕ} {n : ℕ} {s₀ : State} (d : She
 
       -- ---- a row with a root
 
-      module _ {lo i : ℕ} {ms′ rs′ : List ℕ} {s′ : State} (f : TreeRow row i) (begins : Begins (p .marks) lo i)
-          (low : NumberedBelow (s₀ .next) row) (x : RootTrimmed h ws n lo i p (progress ms′ rs′ s′) row) where
+      module _ {lo i : ℕ} {ms′ rs′ hs′ : List ℕ} {s′ : State} (f : TreeRow row i) (begins : Begins (p .marks) lo i)
+          (low : NumberedBelow (s₀ .next) row) (x : RootTrimmed h ws n lo i p (progress ms′ rs′ hs′ s′) row) where
         abbrev m : Progress
         m = x .middle
 
@@ -161,7 +163,7 @@ module _ {h : Header} {ws ms₀ er : List ℕ} {n : ℕ} {s₀ : State} (d : She
         here : Ahead ws ms₀ n p i
         here = at-root (Ahead ws ms₀ n p) (g .ahead k (omega arith) l)
 
-        sound-middle : Sound n m
+        sound-middle : Sound h ws n m
         sound-middle = sound-since (x .tree .so) (g .sound)
 
         few-middle : m .state .count < rowLimit
@@ -170,10 +172,10 @@ module _ {h : Header} {ws ms₀ er : List ℕ} {n : ℕ} {s₀ : State} (d : She
         table′ : rowsOf p′ ≡ rowsOf m ++ (put ∷ [])
         table′ = table-put rs′ m put (sound-middle .long) few-middle (x .put .put)
 
-        sound′ : Sound n p′
+        sound′ : Sound h ws n p′
         sound′ =
             let up : s₀ .next ≤ m .state .next = omega (arith, g .onward, x .tree .so .onward) in
-            sound-put rs′ m put sound-middle few-middle (f .root (x .temp) _ (here .within))
+            sound-put rs′ m put sound-middle few-middle (f .unmade (x .temp)) (f .root (x .temp) _ (here .within))
             (f .low (x .temp) _ (x .mark) (below-up _ _ up row low)) (x .put .put)
 
         -- a root to come
@@ -241,9 +243,9 @@ module _ {h : Header} {ws ms₀ er : List ℕ} {n : ℕ} {s₀ : State} (d : She
               safe = safe′ y a (q .1);
             }
 
-        root-trimmed : TrimmedSoFar h ws ms₀ er n s₀ (progress ms′ rs′ s′) (k + 1)
+        root-trimmed : TrimmedSoFar h ws ms₀ er n s₀ (progress ms′ rs′ hs′ s′) (k + 1)
         root-trimmed =
-            rw (x .marks, x .put .state)
+            rw (x .marks, x .index, x .put .state)
             record {
               sound = sound′;
               room = omega (arith, x .cost, room-now);
@@ -257,8 +259,8 @@ module _ {h : Header} {ws ms₀ er : List ℕ} {n : ℕ} {s₀ : State} (d : She
 
       -- ---- a row without one
 
-      module _ {ms′ rs′ : List ℕ} {s′ : State} (f : VariableRow row) (low : NumberedBelow (s₀ .next) row)
-          (x : RowCopied p (progress ms′ rs′ s′) row) where
+      module _ {ms′ rs′ hs′ : List ℕ} {s′ : State} (f : VariableRow row) (low : NumberedBelow (s₀ .next) row)
+          (x : RowCopied p (progress ms′ rs′ hs′ s′) row) where
         few-copied : p .state .count < rowLimit
         few-copied = omega (arith, room-now, row-spends row)
 
@@ -283,11 +285,11 @@ module _ {h : Header} {ws ms₀ er : List ℕ} {n : ℕ} {s₀ : State} (d : She
             ∙ statements-append temporary ws (p .marks) (rowsOf p) (row ∷ [])
             ∙ ap (λ (z : Statement). sofar ++ (z ∷ [])) (f .whole temporary ws (p .marks))))
 
-        row-copied : TrimmedSoFar h ws ms₀ er n s₀ (progress ms′ rs′ s′) (k + 1)
+        row-copied : TrimmedSoFar h ws ms₀ er n s₀ (progress ms′ rs′ hs′ s′) (k + 1)
         row-copied =
-            rw (x .marks, x .put .state)
+            rw (x .marks, x .index, x .put .state)
             record {
-              sound = sound-put rs′ p row (g .sound) few-copied (f .root _) (below-up _ _ (g .onward) row low) (x .put .put);
+              sound = sound-put rs′ p row (g .sound) few-copied (f .unmade) (f .root _) (below-up _ _ (g .onward) row low) (x .put .put);
               room = omega (arith, room-now, row-spends row);
               onward = g .onward;
               ahead = λ j a b.
@@ -305,16 +307,16 @@ module _ {h : Header} {ws ms₀ er : List ℕ} {n : ℕ} {s₀ : State} (d : She
 
     -- ---- any row
 
-    module _ {ms′ rs′ : List ℕ} {s′ : State} (l : k < s₀ .count) where
+    module _ {ms′ rs′ hs′ : List ℕ} {s′ : State} (l : k < s₀ .count) where
       row-by : (row : Row) → row ≡ rowAt er k → Unmade row → NumberedBelow (s₀ .next) row →
-          OnGiven (λ i. getD (p .marks) i 0 ≡ 0) row → RowTrimmed h ws n p (progress ms′ rs′ s′) row →
-          TrimmedSoFar h ws ms₀ er n s₀ (progress ms′ rs′ s′) (k + 1)
+          OnGiven (λ i. getD (p .marks) i 0 ≡ 0) row → RowTrimmed h ws n p (progress ms′ rs′ hs′ s′) row →
+          TrimmedSoFar h ws ms₀ er n s₀ (progress ms′ rs′ hs′ s′) (k + 1)
       row-by (Given q i) u a low z x = root-trimmed l u (given-row q i) (begins-with z) low x
       row-by (Copied q j) u a low z x = row-copied l u (copied-row q j) low x
       row-by (Kept m i) u a low z x = root-trimmed l u (kept-row m i) (begins-after (p .marks) i) low x
       row-by (Passed m j) u a low z x = row-copied l u (passed-row m j) low x
       row-by (Made m i) u a low z x = absurd a
 
-      pub trimmed-on : (row : Row) → row ≡ rowAt er k → RowTrimmed h ws n p (progress ms′ rs′ s′) row →
-          TrimmedSoFar h ws ms₀ er n s₀ (progress ms′ rs′ s′) (k + 1)
+      pub trimmed-on : (row : Row) → row ≡ rowAt er k → RowTrimmed h ws n p (progress ms′ rs′ hs′ s′) row →
+          TrimmedSoFar h ws ms₀ er n s₀ (progress ms′ rs′ hs′ s′) (k + 1)
       trimmed-on row u x = row-by row u (rw u (d .unmade k l)) (rw u (d .named k l)) (rw u (g .blank k (omega arith) l)) x

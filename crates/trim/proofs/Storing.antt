@@ -11,7 +11,7 @@ use borrow.Author.Tests.{ne-eqb, eqb-true}
 use Rattle.limits.specs.Limits.{depthLimit, rowLimit, rowsLength, temporaryLimit}
 use Rattle.symbol.specs.declared.Loc.{Loc}
 use Rattle.symbol.specs.declared.Loc.the-variants.{Stack}
-use Rattle.header.specs.declared.Header.{Header}
+use Rattle.calls.specs.declared.Settings.{Settings}
 use Rattle.operation.specs.Operators.{isFunction2}
 use Rattle.operation.specs.declared.Two.{Two}
 use Rattle.definitions.specs.Tree.{Tree, variable, two, ershov}
@@ -33,7 +33,10 @@ use Rattle.calls.specs.declared.Trimmed.{Trimmed as Answer}
 use Rattle.trim.specs.Trimming.{Progress, progress, rowsOf, Sound, TrimReady, Gathered, TreeTrimmed, ViewTrimmed}
 use Rattle.trim.specs.Joining.{isFull}
 use Rattle.statement.proofs.EveryRow.{all-one, all-append, named-up}
-use Rattle.trim.proofs.StillRows.{still-statements, still-part}
+use Rattle.calls.specs.Index.{Keyed}
+use Rattle.calls.proofs.Keying.{keyed-still, keyed-put}
+use Rattle.trim.specs.Rowing.{Still}
+use Rattle.trim.proofs.StillRows.{still-statements, still-part, still-since}
 use Rattle.trim.proofs.NodesUnmarked.{bare-marked, zeros-set}
 use Rattle.trim.proofs.Gathering.{TwoSided, table-put, sound-since, gathers-two}
 use Rattle.trim.proofs.Trimming.{result}
@@ -97,15 +100,28 @@ table-pair p l r middle words long c e3 e4 =
     let count = p .state .count in
     let next = p .state .next in
     let q : count + 2 ≡ count + 1 + 1 = omega arith in
-    let m = progress (p .marks) middle (record { next = next; count = count + 1 }) in
+    let m = progress (p .marks) middle (p .index) (record { next = next; count = count + 1 }) in
     rw q
     (table-put words m (Kept (next + 1) r) (ap length e3 ∙ put-length (p .words) count (Kept next l) ∙ long) (omega arith) e4
     ∙ ap (λ (x : List Row). x ++ (Kept (next + 1) r ∷ [])) (table-put middle p (Kept next l) long (omega arith) e3)
     ∙ append-assoc (rowsOf p) (Kept next l ∷ []) (Kept (next + 1) r ∷ []))
 
-module _ {ws : List ℕ} {n i r : ℕ} {p p1 p2 : Progress} {rows1 rows2 : List Row} (both : TwoSided ws n i r)
-    (g : Gathered ws n (i + 1) (i + 1) p p1 0 rows1) (k : Gathered ws n r r p1 p2 0 rows2)
-    (z1 : getD (p2 .marks) (i + 1) 0 ≡ 0) (z2 : getD (p2 .marks) r 0 ≡ 0) (sound : Sound n p2) where
+-- they make no calls
+keyed-pair : (p : Progress) (l r : ℕ) (middle words : List ℕ) → length (p .words) ≡ rowsLength → p .state .count + 2 ≤ rowLimit →
+    middle ≡ sets (p .words) (3 * p .state .count) (rowWords (Kept (p .state .next) l)) →
+    words ≡ sets middle (3 * (p .state .count + 1)) (rowWords (Kept (p .state .next + 1) r)) →
+    {ws ms : List ℕ} → Keyed ws ms (p .words) (p .index) (p .state .count) → Keyed ws ms words (p .index) (p .state .count + 2)
+keyed-pair p l r middle words long c e3 e4 x =
+    let count = p .state .count in
+    let next = p .state .next in
+    let q : count + 2 ≡ count + 1 + 1 = omega arith in
+    let first = keyed-put (p .words) count (Kept next l) tt long (omega arith) x in
+    let kept = ap length e3 ∙ put-length (p .words) count (Kept next l) ∙ long in
+    rw (q, e4) (keyed-put middle (count + 1) (Kept (next + 1) r) tt kept (omega arith) (rw (← e3) at first))
+
+module _ {h : Settings} {ws : List ℕ} {n i r : ℕ} {p p1 p2 : Progress} {rows1 rows2 : List Row} (both : TwoSided ws n i r)
+    (g : Gathered h ws n (i + 1) (i + 1) p p1 0 rows1) (k : Gathered h ws n r r p1 p2 0 rows2)
+    (z1 : getD (p2 .marks) (i + 1) 0 ≡ 0) (z2 : getD (p2 .marks) r 0 ≡ 0) (sound : Sound h ws n p2) where
   abbrev pair : List Row
   pair = pairOf (i + 1) r (p2 .state .next)
 
@@ -135,9 +151,11 @@ module _ {ws : List ℕ} {n i r : ℕ} {p p1 p2 : Progress} {rows1 rows2 : List 
   gathers-stored : (middle words : List ℕ) → p2 .state .count + 2 ≤ rowLimit →
       middle ≡ sets (p2 .words) (3 * p2 .state .count) (rowWords (Kept (p2 .state .next) (i + 1))) →
       words ≡ sets middle (3 * (p2 .state .count + 1)) (rowWords (Kept (p2 .state .next + 1) r)) →
-      Gathered ws n (i + 1) i p (progress (storedMarks (p2 .marks) (i + 1) r (p2 .state .next)) words (later (p2 .state))) 0
+      ((temporary : ℕ → Loc) → Still temporary ws (p2 .marks) (storedMarks (p2 .marks) (i + 1) r (p2 .state .next)) (rowsOf p2)) →
+      Gathered h ws n (i + 1) i p
+      (progress (storedMarks (p2 .marks) (i + 1) r (p2 .state .next)) words (p2 .index) (later (p2 .state))) 0
       ((rows1 ++ rows2) ++ pair)
-  gathers-stored middle words c e3 e4 =
+  gathers-stored middle words c e3 e4 still =
       let s = gathers-two both g k in
       let next = p2 .state .next in
       let rows = rows1 ++ rows2 in
@@ -157,6 +175,7 @@ module _ {ws : List ℕ} {n i r : ℕ} {p p1 p2 : Progress} {rows1 rows2 : List 
         long =
             ap length e4 ∙ put-length middle (p2 .state .count + 1) (Kept (next + 1) r) ∙ ap length e3
             ∙ put-length (p2 .words) (p2 .state .count) (Kept next (i + 1)) ∙ s .long;
+        chains = s .chains;
         small = small-stored (p2 .marks) (i + 1) r next order here (k .small);
         mark = omega arith;
         table =
@@ -169,6 +188,7 @@ module _ {ws : List ℕ} {n i r : ℕ} {p p1 p2 : Progress} {rows1 rows2 : List 
             all-append _ rows pair (named-up next (next + 2) (omega arith) rows (s .named))
             (pair-all _ (i + 1) r next (omega arith) (omega arith));
         free = λ y u v m. all-append _ rows pair (s .free y u v m) (free-pair y u m);
+        findable = λ on. keyed-pair p2 (i + 1) r middle words (sound .long) c e3 e4 (keyed-still _ still (sound .findable on));
       }
 
 -- ---- the node that is left
@@ -184,9 +204,9 @@ temporary-view temporary m k t e =
     let q : m - 1 ≡ k = omega arith in
     rw (ne-eqb m 0 (λ z. omega arith), q) refl
 
-module _ {h : Header} {ws : List ℕ} {n i r : ℕ} {p p1 p2 : Progress} {o : Two} {a b : Answer} (ready : TrimReady h ws n (i + 1) i p)
+module _ {h : Settings} {ws : List ℕ} {n i r : ℕ} {p p1 p2 : Progress} {o : Two} {a b : Answer} (ready : TrimReady h ws n (i + 1) i p)
     (e : nodeAt ws i ≡ BinaryNode o r) (x : ViewTrimmed h ws n (i + 1) p p1 a) (y : ViewTrimmed h ws n r p1 p2 b) where
-  sound-now : Sound n p2
+  sound-now : Sound h ws n p2
   sound-now = sound-since (gathered-two ready e x y) (ready .sound)
 
   -- both sides need every register
@@ -250,12 +270,27 @@ module _ {h : Header} {ws : List ℕ} {n i r : ℕ} {p p1 p2 : Progress} {o : Tw
         ∙ ap₂ (two o) (temporary-view temporary _ next _ (left-mark (p2 .marks) (i + 1) r next order within))
         (temporary-view temporary _ (suc next) _ (right-mark (p2 .marks) (i + 1) r next order within ∙ q))
 
-    rows-still : (temporary : ℕ → Loc) → statementsOf temporary ws marks both ≡ statementsOf temporary ws (p2 .marks) both
-    rows-still temporary =
-        still-statements temporary ws (p2 .marks) marks both
-        (all-append _ (x .tree .rows) (y .tree .rows)
+    both-still : (temporary : ℕ → Loc) → Still temporary ws (p2 .marks) marks both
+    both-still temporary =
+        all-append _ (x .tree .rows) (y .tree .rows)
         (still-part temporary ws (p2 .marks) marks n (ready .table) (i + 1) agree-left (x .tree .rows) (x .tree .so .inside))
-        (still-part temporary ws (p2 .marks) marks n (ready .table) r agree-right (y .tree .rows) (y .tree .so .inside)))
+        (still-part temporary ws (p2 .marks) marks n (ready .table) r agree-right (y .tree .rows) (y .tree .so .inside))
+
+    rows-still : (temporary : ℕ → Loc) → statementsOf temporary ws marks both ≡ statementsOf temporary ws (p2 .marks) both
+    rows-still temporary = still-statements temporary ws (p2 .marks) marks both (both-still temporary)
+
+    -- so are the rows before
+    all-still : (temporary : ℕ → Loc) → Still temporary ws (p2 .marks) marks (rowsOf p2)
+    all-still temporary =
+        let g = gathered-two ready e x y in
+        let two = sides ready e in
+        let moved = moves-split ws (p .marks) (p1 .marks) (p2 .marks) i r (endAt ws r) (two .left) (two .meet) (two .last)
+        (x .tree .so .moves) (y .tree .so .moves) (next + 1) (next + 2) left-unmarked right-unmarked in
+        rw (g .table)
+        (all-append _ (rowsOf p) both
+        (still-since temporary ws (p .marks) (p2 .marks) marks (rowsOf p) (ready .steady (p2 .marks) (g .moves) temporary)
+        (ready .steady marks (rw (two .ends) moved) temporary))
+        (both-still temporary))
 
     abbrev storesAt : (temporary : ℕ → Loc) (k : ℕ) → Tree → Tree → List Statement
     storesAt temporary k t u = assign (temporary next) t ∷ assign (temporary k) u ∷ []
@@ -281,7 +316,7 @@ module _ {h : Header} {ws : List ℕ} {n i r : ℕ} {p p1 p2 : Progress} {o : Tw
     pub two-stored : (middle words : List ℕ) → isFunction2 o ≡ false →
         middle ≡ sets (p2 .words) (3 * p2 .state .count) (rowWords (Kept next (i + 1))) →
         words ≡ sets middle (3 * (p2 .state .count + 1)) (rowWords (Kept (next + 1) r)) →
-        TreeTrimmed h ws n (i + 1) i p (progress marks words (later (p2 .state))) (λ temporary. seen temporary ws (p .marks) i)
+        TreeTrimmed h ws n (i + 1) i p (progress marks words (p2 .index) (later (p2 .state))) (λ temporary. seen temporary ws (p .marks) i)
         (λ temporary. seen temporary ws marks i) 2 0
     unfolding ershov
     two-stored middle words q e3 e4 =
@@ -291,7 +326,7 @@ module _ {h : Header} {ws : List ℕ} {n i r : ℕ} {p p1 p2 : Progress} {o : Tw
           rows = both ++ pairOf (i + 1) r next;
           so =
               gathers-stored (sides ready e) (x .tree .so) (y .tree .so) left-unmarked right-unmarked sound-now middle words
-              (store-room .0) e3 e4;
+              (store-room .0) e3 e4 all-still;
           trimmed = λ temporary f.
               split-as ready e x y true q full temporary f
               ∙ ap₂ (λ (k : ℕ) (l : List Statement). result k l (left temporary)) up (all-read temporary)

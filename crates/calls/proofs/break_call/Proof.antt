@@ -1,26 +1,29 @@
--- `calls::break_call` meets its contract: an earlier call was found, or a row is put.
+-- `calls::break_call` meets its contract: by whether earlier calls are sought.
+use native.Mathlib.Omega.{arith}
 use borrow.Author.Needs.{needs}
-use Rattle.calls.proofs.Search.{ready-sought, broken-found, broken-made}
+use Rattle.calls.proofs.Search.{broken-off}
 use Rattle.calls.proofs.break_call.Statement.{statement}
 use Rattle.calls.proofs.break_call.Tie as tie
 
-seek-requires : tie.Need-seek-requires
-seek-requires c κs = (ready-sought (c .before .before .pre .0), search needs)
+shared-call-requires : tie.Need-shared-call-requires
+shared-call-requires c κs =
+    let on = c .before .before in
+    let s = on .before .before in
+    (s .pre .0, s .pre .1 (on .if1 .taken))
 
 returns : tie.Need-returns
 returns c =
-    let sought = c .before in
-    let s = sought .before .before .before in
-    broken-found (s .pre .0) (sought .seek .ensures) (c .if1 .taken) (s .pre .3)
+    let on = c .before .before .before in
+    rw (on .if1 .taken) (c .shared-call .ensures)
+
+new-call-requires : tie.Need-new-call-requires
+new-call-requires c κs = let s = c .before .before .before in (s .pre .0 .few, s .pre .0 .low, omega arith)
 
 returns-2 : tie.Need-returns-2
 returns-2 c =
-    let put = c .before .before in
-    let none-found = put .before .before in
-    let sought = none-found .before in
-    let s = sought .before .before .before in
-    broken-made (s .pre .0) (sought .seek .ensures) (none-found .if1 .left) (put .put-row .ensures)
+    let off = c .before .before in
+    let s = off .before .before in
+    broken-off (s .pre .0) (off .if1 .left) (c .new-call .ensures)
 
 pub break-call-spec : {M : Type 1} → statement M
-break-call-spec =
-    tie.close (tie.spec seek-requires returns (λ c κs. search needs) (λ c. search needs) (λ c. search needs) returns-2)
+break-call-spec = tie.close (tie.spec shared-call-requires returns new-call-requires returns-2)

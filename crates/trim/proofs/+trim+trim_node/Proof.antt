@@ -29,23 +29,23 @@ use Rattle.trim.proofs.state_of.Reads as state-of-reads
 use Rattle.trim.proofs.+trim+trim_node.{statement}
 use Rattle.trim.proofs.+trim+trim_node.Tie.{close}
 
-abbrev μ-trim : Measures 3 trim-kinds.ps ℕ
-μ-trim κs a = 2 * (a .1 .0 - a .1 .1 .0) + 1
+abbrev μ-trim : Measures 4 trim-kinds.ps ℕ
+μ-trim κs a = 2 * (a .1 .1 .0 .nodes - a .1 .0) + 1
 
-abbrev μ-trim-node : Measures 3 trim-node-kinds.ps ℕ
-μ-trim-node κs a = 2 * (a .1 .0 - a .1 .1 .0)
+abbrev μ-trim-node : Measures 4 trim-node-kinds.ps ℕ
+μ-trim-node κs a = 2 * (a .1 .1 .0 .nodes - a .1 .0)
 
-abbrev trim-at : ℕ → In 3 trim-kinds.ps
-trim-at t = and 3 trim-kinds.ps (is 3 trim-kinds.ps μ-trim t) trim.Pre
+abbrev trim-at : ℕ → In 4 trim-kinds.ps
+trim-at t = and 4 trim-kinds.ps (is 4 trim-kinds.ps μ-trim t) trim.Pre
 
-abbrev trim-below : ℕ → In 3 trim-kinds.ps
-trim-below t = and 3 trim-kinds.ps (falls 3 trim-kinds.ps _<_ μ-trim t) trim.Pre
+abbrev trim-below : ℕ → In 4 trim-kinds.ps
+trim-below t = and 4 trim-kinds.ps (falls 4 trim-kinds.ps _<_ μ-trim t) trim.Pre
 
-abbrev trim-node-at : ℕ → In 3 trim-node-kinds.ps
-trim-node-at t = and 3 trim-node-kinds.ps (is 3 trim-node-kinds.ps μ-trim-node t) trim-node.Pre
+abbrev trim-node-at : ℕ → In 4 trim-node-kinds.ps
+trim-node-at t = and 4 trim-node-kinds.ps (is 4 trim-node-kinds.ps μ-trim-node t) trim-node.Pre
 
-abbrev trim-node-below : ℕ → In 3 trim-node-kinds.ps
-trim-node-below t = and 3 trim-node-kinds.ps (falls 3 trim-node-kinds.ps _<_ μ-trim-node t) trim-node.Pre
+abbrev trim-node-below : ℕ → In 4 trim-node-kinds.ps
+trim-node-below t = and 4 trim-node-kinds.ps (falls 4 trim-node-kinds.ps _<_ μ-trim-node t) trim-node.Pre
 
 abbrev trim-claims : ℕ → trim-lts.Claims
 trim-claims t = (trim-node-below t, trim-node.Post)
@@ -79,15 +79,18 @@ marked-returns t c =
 
 node-asked : (t : ℕ) → trim-lts.Need-trim-node-requires (trim-claims t) (trim-at t) trim.Post
 node-asked t c κs =
-    let unmarked = c .before .before in
+    let unmarked = c .before .before .before in
     let start = unmarked .before .before .before in
     (omega (arith, start .pre .0), ready-node (unmarked .if1 .left) (start .pre .1))
 
+abbrev node-start : (t : ℕ) → trim-lts.After-trim-node (trim-claims t) (trim-at t) trim.Post →
+    trim-lts.Start (trim-claims t) (trim-at t) trim.Post
+node-start t c = let unmarked = c .before .before .before .before in unmarked .before .before .before
+
 node-returns : (t : ℕ) → trim-lts.Need-returns-2 (trim-claims t) (trim-at t) trim.Post
 node-returns t c =
-    let unmarked = c .before .before .before in
-    let start = unmarked .before .before .before in
-    view-marks _ (start .pre .1) (unmarked .if1 .left) (c .trim-node .ensures)
+    let unmarked = c .before .before .before .before in
+    view-marks _ (node-start t c .pre .1) (unmarked .if1 .left) (c .trim-node .ensures)
 
 -- ---- a leaf
 
@@ -109,13 +112,14 @@ abbrev SideDone : ℕ → Type 0
 SideDone t = trim-node-lts.After-trim (trim-node-claims t) (trim-node-at t) trim-node.Post
 
 abbrev side-start : (t : ℕ) → SideDone t → trim-node-lts.Start (trim-node-claims t) (trim-node-at t) trim-node.Post
-side-start t c = let told = c .before .before .before in told .before .before .before .before .before
+side-start t c = let told = c .before .before .before .before in told .before .before .before .before .before
 
 abbrev side-done : (t : ℕ) (c : SideDone t) →
     let args = side-start t c .args in
-    SideTrimmed (args .h) (args .ws .now) (args .n) (args .i) (progress (args .ms .now) (args .rs .now) (args .s))
+    SideTrimmed (args .g) (args .ws .now) (args .g .nodes) (args .i)
+    (progress (args .ms .now) (args .rs .now) (args .heads .now) (args .s))
 side-done t c =
-    let told = c .before .before .before in
+    let told = c .before .before .before .before in
     record {
       o = _;
       a = _;
@@ -127,14 +131,14 @@ side-done t c =
 
 side-asked : (t : ℕ) → trim-node-lts.Need-trim-requires (trim-node-claims t) (trim-node-at t) trim-node.Post
 side-asked t c κs =
-    let told = c .before .before in
+    let told = c .before .before .before in
     let start = told .before .before .before .before .before in
     let node = sym (told .before .before .before .unpack .ensures) ∙ told .before .node .given .1 in
     (omega (arith, start .pre .0, start .pre .1 .within), ready-one (start .pre .1) node)
 
 call-asked : (t : ℕ) → trim-node-lts.Need-break-call-requires (trim-node-claims t) (trim-node-at t) trim-node.Post
 call-asked t c κs =
-    let chosen = c .before .before .before in
+    let chosen = c .before .before .before .before in
     let done = side-done t (chosen .before .before) in
     let function = sym (chosen .before .is-function1 .ensures) ∙ chosen .if1 .taken in
     let calling = calling-one (done .ready) (done .node) (done .side) function in
@@ -142,7 +146,7 @@ call-asked t c κs =
 
 call-returns : (t : ℕ) → trim-node-lts.Need-returns (trim-node-claims t) (trim-node-at t) trim-node.Post
 call-returns t c =
-    let chosen = c .before .before .before .before in
+    let chosen = c .before .before .before .before .before in
     let done = side-done t (chosen .before .before) in
     let function = sym (chosen .before .is-function1 .ensures) ∙ chosen .if1 .taken in
     let calling = calling-one (done .ready) (done .node) (done .side) function in
@@ -160,16 +164,17 @@ RightDone t = trim-node-lts.After-trim3 (trim-node-claims t) (trim-node-at t) tr
 
 abbrev sides-start : (t : ℕ) → RightDone t → trim-node-lts.Start (trim-node-claims t) (trim-node-at t) trim-node.Post
 sides-start t c =
-    let left = c .before .before .before .before in
-    let told = left .before .before .before in
+    let left = c .before .before .before .before .before in
+    let told = left .before .before .before .before in
     told .before .before .before .before .before
 
 abbrev sides-done : (t : ℕ) (c : RightDone t) →
     let args = sides-start t c .args in
-    SidesTrimmed (args .h) (args .ws .now) (args .n) (args .i) (progress (args .ms .now) (args .rs .now) (args .s))
+    SidesTrimmed (args .g) (args .ws .now) (args .g .nodes) (args .i)
+    (progress (args .ms .now) (args .rs .now) (args .heads .now) (args .s))
 sides-done t c =
-    let left = c .before .before .before .before in
-    let told = left .before .before .before in
+    let left = c .before .before .before .before .before in
+    let told = left .before .before .before .before in
     record {
       o = _;
       r = _;
@@ -185,15 +190,15 @@ sides-done t c =
 
 left-asked : (t : ℕ) → trim-node-lts.Need-trim-requires-2 (trim-node-claims t) (trim-node-at t) trim-node.Post
 left-asked t c κs =
-    let told = c .before .before in
+    let told = c .before .before .before in
     let start = told .before .before .before .before .before in
     let node = sym (told .before .before .before .unpack .ensures) ∙ told .before .node2 .given .1 in
     (omega (arith, start .pre .0, start .pre .1 .within), ready-left (start .pre .1) node)
 
 right-asked : (t : ℕ) → trim-node-lts.Need-trim-requires-3 (trim-node-claims t) (trim-node-at t) trim-node.Post
 right-asked t c κs =
-    let left = c .before .before .before in
-    let told = left .before .before .before in
+    let left = c .before .before .before .before in
+    let told = left .before .before .before .before in
     let start = told .before .before .before .before .before in
     let node = sym (told .before .before .before .unpack .ensures) ∙ told .before .node2 .given .1 in
     let ready = start .pre .1 in
@@ -202,7 +207,7 @@ right-asked t c κs =
 
 call-two-asked : (t : ℕ) → trim-node-lts.Need-break-call-requires-2 (trim-node-claims t) (trim-node-at t) trim-node.Post
 call-two-asked t c κs =
-    let chosen = c .before .before .before in
+    let chosen = c .before .before .before .before in
     let done = sides-done t (chosen .before .before) in
     let function = sym (chosen .before .is-function2 .ensures) ∙ chosen .if2 .taken in
     let calling = calling-two (done .ready) (done .node) (done .left) (done .right) function in
@@ -210,7 +215,7 @@ call-two-asked t c κs =
 
 call-two-returns : (t : ℕ) → trim-node-lts.Need-returns-2 (trim-node-claims t) (trim-node-at t) trim-node.Post
 call-two-returns t c =
-    let chosen = c .before .before .before .before in
+    let chosen = c .before .before .before .before .before in
     let done = sides-done t (chosen .before .before) in
     let function = sym (chosen .before .is-function2 .ensures) ∙ chosen .if2 .taken in
     let calling = calling-two (done .ready) (done .node) (done .left) (done .right) function in
@@ -240,8 +245,8 @@ pub +trim+trim-node-spec : {M : Type 1} → statement M
     (λ c. let start = c .before in omega (arith, start .pre .1 .within, start .pre .1 .table .few))
     (λ c. let start = c .before in omega (arith, start .pre .1 .within, start .pre .1 .table .few))
     (marked-returns t) (node-asked t)
-    (λ c. let start = c .before .before .before .before .before .before in omega (arith, start .pre .1 .within, start .pre .1 .table .few))
-    (λ c. let start = c .before .before .before .before .before .before in omega (arith, start .pre .1 .within, start .pre .1 .table .few))
+    (λ c. let start = node-start t c in omega (arith, start .pre .1 .within, start .pre .1 .table .few))
+    (λ c. let start = node-start t c in omega (arith, start .pre .1 .within, start .pre .1 .table .few))
     (node-returns t))
     (λ t. trim-node-lts.spec (trim-node-claims t) (trim-node-at t) trim-node.Post
     (λ c κs. let start = c .before in laid-room _ depthLimit _ (start .pre .1 .table .laid _ (start .pre .1 .within)))

@@ -5,13 +5,12 @@ use Prim.Native.Nat.{ℕ}
 use borrow.Author.Needs.{needs}
 use Rattle.statement.specs.declared.State.{State}
 use Rattle.calls.specs.declared.Trimmed.{Trimmed as Answer}
-use Rattle.trim.specs.Trimming.{Progress, progress}
 use Rattle.trim.specs.Joining.{SidesStored, stored, joined}
 use Rattle.trim.proofs.join_sides.Statement.{statement}
 use Rattle.trim.proofs.join_sides.Tie as tie
 
-stored-on : {l r : ℕ} {ms rs : List ℕ} {s t : State} {p : Progress} {z : Answer} → s ≡ t →
-    SidesStored l r (progress ms rs s) p z → SidesStored l r (progress ms rs t) p z
+stored-on : {l r : ℕ} {s t : State} {ms rs ms′ rs′ : List ℕ} {z : Answer} → s ≡ t → SidesStored l r s ms rs ms′ rs′ z →
+    SidesStored l r t ms rs ms′ rs′ z
 stored-on e x = rw e at x
 
 split-requires : tie.Need-split-requires
