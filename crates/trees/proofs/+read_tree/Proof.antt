@@ -5,13 +5,13 @@ use borrow.Author.Needs.{needs}
 use borrow.Fn.Kinds.{In}
 use borrow.Fn.PlainCycle.{Measures, is, falls, and}
 use Rattle.limits.specs.Limits.{nodeLimit}
-use Rattle.definitions.specs.Tree.{weight}
-use Rattle.definitions.specs.Sheet.{TreeReader, treeAt}
-use Rattle.node.specs.Nodes.{layout}
+use Rattle.definitions.specs.Sheet.{Read, TreeReader, treeAt}
+use Rattle.node.specs.declared.Node.{Node}
 use Rattle.places.specs.declared.Head.{Head}
 use Rattle.places.specs.Heads.{headTree}
-use Rattle.trees.proofs.Heads.{HeadKept, tree-begins, kept-within}
-use Rattle.trees.proofs.Trees.{tree-was-got, tree-was-bad, under1-read, under2-read}
+use Rattle.trees.specs.Reads.{nodeHead}
+use Rattle.trees.proofs.Heads.{Says, HeadKept, head-says, node-tree, kept-within}
+use Rattle.trees.proofs.Trees.{tree-was-got, tree-was-bad, leaf-read, under1-read, under2-read}
 use Rattle.trees.proofs.read_tree.Reads as read-tree
 use Rattle.trees.proofs.read_tree.Kinds as read-tree-kinds
 use Rattle.trees.proofs.+read_tree.Lts-read_tree as lts
@@ -49,95 +49,90 @@ module _ (t : ℕ) where
     s = c .before .before .before
 
     abbrev below : TreeReader
-    below = treeAt (s .args .h .first) (s .args .left - 1) (s .args .s .now)
+    below = treeAt (s .args .first) (s .args .left - 1) (s .args .s .now)
+
+    abbrev node : Read Node
+    node = nodeHead (s .args .first) (s .args .left) (s .args .s .now) (s .args .at) (s .args .n)
 
     abbrev Within : Type 0
     Within = (0 < s .args .left) × (s .args .n < nodeLimit)
 
-    module _ {g : Head} (e : c .read-node .result ≡ g) where
-      within : HeadKept g → Within
-      within = kept-within (s .args .h .first) (s .args .s .now) (s .args .at) (s .args .n) (s .args .left) (c .read-node .ensures) e
+    within : {g : Head} → c .read-node .result ≡ g → HeadKept g → Within
+    within = kept-within (s .args .first) (s .args .s .now) (s .args .at) (s .args .n) (s .args .left) (c .read-node .ensures)
 
-      begins : treeAt (s .args .h .first) (s .args .left) (s .args .s .now) (s .args .at) (s .args .n) ≡ headTree below g (s .args .n)
-      begins = tree-begins (s .args .h .first) (s .args .s .now) (s .args .at) (s .args .n) (s .args .left) (c .read-node .ensures) e
+    says : {g : Head} → c .read-node .result ≡ g → Says node g
+    says = head-says node (c .read-node .ensures)
+
+    begins : treeAt (s .args .first) (s .args .left) (s .args .s .now) (s .args .at) (s .args .n) ≡ headTree below node (s .args .n)
+    begins = node-tree (s .args .first) (s .args .s .now) (s .args .at) (s .args .n) (s .args .left)
 
   -- the limits: at a leaf's tag, over one tree, over two, and at the second of them
-  within-constant : (c : lts.After-known-told (claims t) (read-tree-at t) read-tree.Post) → Within (c .before .before .before)
-  within-constant c = within (c .before .before .before) (c .before .head .given .1) tt
+  within0 : (c : lts.After-known-told (claims t) (read-tree-at t) read-tree.Post) → Within (c .before .before .before)
+  within0 c = within (c .before .before .before) (c .before .head .given .1) tt
 
-  within-variable : (c : lts.After-known-told2 (claims t) (read-tree-at t) read-tree.Post) → Within (c .before .before .before)
-  within-variable c = within (c .before .before .before) (c .before .head2 .given .1) tt
+  within1 : (c : lts.After-known-told2 (claims t) (read-tree-at t) read-tree.Post) → Within (c .before .before .before)
+  within1 c = within (c .before .before .before) (c .before .head2 .given .1) tt
 
-  within1 : (c : lts.After-known-told3 (claims t) (read-tree-at t) read-tree.Post) → Within (c .before .before .before)
-  within1 c = within (c .before .before .before) (c .before .head3 .given .1) tt
+  within2 : (c : lts.After-known-told3 (claims t) (read-tree-at t) read-tree.Post) → Within (c .before .before .before)
+  within2 c = within (c .before .before .before) (c .before .head3 .given .1) tt
 
-  within2 : (c : lts.After-known-told4 (claims t) (read-tree-at t) read-tree.Post) → Within (c .before .before .before)
-  within2 c = within (c .before .before .before) (c .before .head4 .given .1) tt
-
-  within-right : (c : lts.After-known-told5 (claims t) (read-tree-at t) read-tree.Post)
+  within-right : (c : lts.After-known-told4 (claims t) (read-tree-at t) read-tree.Post)
       → let left = c .before .before .before .before .before in Within (left .before .before .before .before .before)
   within-right c = let left = c .before .before .before .before .before in within2 (left .before .before)
 
   returns : lts.Need-returns (claims t) (read-tree-at t) read-tree.Post
-  unfolding weight layout
   returns c =
       let put = c .before .before in
       let known = put .before .before in
-      rw (begins (known .before .before .before) (known .before .head .given .1)) (put .put-leaf .ensures)
+      let tagged = known .before .before .before in
+      rw (begins tagged) (leaf-read (below tagged) _ _ (says tagged (known .before .head .given .1)) (put .put-leaf .ensures))
 
   returns-2 : lts.Need-returns-2 (claims t) (read-tree-at t) read-tree.Post
-  unfolding weight layout
   returns-2 c =
-      let put = c .before .before in
-      let known = put .before .before in
-      rw (begins (known .before .before .before) (known .before .head2 .given .1)) (put .put-leaf2 .ensures)
-
-  returns-3 : lts.Need-returns-3 (claims t) (read-tree-at t) read-tree.Post
-  returns-3 c =
       let put = c .before .before in
       let read = put .before .before .before .before in
       let known = read .before .before in
       let tagged = known .before .before .before in
-      let over = known .before .head3 .given in
-      rw (begins tagged (over .1))
-      (under1-read (below tagged) _ (over .0 .1 .0) _ (s tagged .args .ws .now) _ (read .read-tree .ensures)
-      (put .put-over .ensures))
+      let over = says tagged (known .before .head2 .given .1) in
+      rw (begins tagged) (under1-read (below tagged) _ _ _ over (read .read-tree .ensures) (put .put-over .ensures))
 
-  returns-4 : lts.Need-returns-4 (claims t) (read-tree-at t) read-tree.Post
-  returns-4 c =
+  returns-3 : lts.Need-returns-3 (claims t) (read-tree-at t) read-tree.Post
+  returns-3 c =
       let put = c .before .before in
       let right = put .before .before .before .before in
       let got = right .before .before .before in
       let left = got .before .before .before .before in
       let known = left .before .before in
       let tagged = known .before .before .before in
-      let over = known .before .head4 .given in
-      rw (begins tagged (over .1))
-      (under2-read (below tagged) _ _ _ _ _ (tree-was-got _ _ _ _ (left .read-tree2 .ensures) (got .l .given .1))
-      (right .read-tree3 .ensures) (put .put-over2 .ensures))
+      let over = says tagged (known .before .head3 .given .1) in
+      let first = tree-was-got _ _ _ _ (left .read-tree2 .ensures) (got .l .given .1) in
+      rw (begins tagged) (under2-read (below tagged) _ _ _ over first (right .read-tree3 .ensures) (put .put-over2 .ensures))
 
-  returns-5 : lts.Need-returns-5 (claims t) (read-tree-at t) read-tree.Post
-  returns-5 c =
+  returns-4 : lts.Need-returns-4 (claims t) (read-tree-at t) read-tree.Post
+  returns-4 c =
       let left = c .before .before .before .before .before in
       let known = left .before .before in
       let tagged = known .before .before .before in
-      let over = known .before .head4 .given in
+      let told = known .before .head3 .given in
+      let over = says tagged (told .1) in
       let refused = c .before .l2 .given .1 in
-      rw (begins tagged (over .1), tree-was-bad _ _ _ (below tagged (over .0 .1 .0) _) (left .read-tree2 .ensures) refused)
+      let bad = tree-was-bad _ _ _ (below tagged (told .0 .1 .1 .0) _) (left .read-tree2 .ensures) refused in
+      rw (begins tagged, over .read, bad)
 
-  returns-6 : lts.Need-returns-6 (claims t) (read-tree-at t) read-tree.Post
-  returns-6 c = rw (begins (c .before .before .before) (c .before .head5 .given .1))
+  returns-5 : lts.Need-returns-5 (claims t) (read-tree-at t) read-tree.Post
+  returns-5 c =
+      let tagged = c .before .before .before in
+      rw (begins tagged, says tagged (c .before .head4 .given .1))
 
 pub +read-tree-spec : {M : Type 1} → statement M
 +read-tree-spec =
     close μ-read-tree λ t. lts.spec (claims t) (read-tree-at t) read-tree.Post
     (λ c κs. search needs)
-    (λ c. search needs) (λ c κs. within-constant t (c .before) .1)
-    (λ c. search needs) (λ c κs. within-variable t (c .before) .1)
+    (λ c. search needs) (λ c κs. within0 t (c .before) .1)
     (λ c. search needs) (λ c. search (needs, within1 t c)) (λ c. search (needs, within1 t (c .before)))
     (λ c κs. search (needs, within1 t (c .before))) (λ c κs. search needs)
     (λ c. search needs) (λ c. search (needs, within2 t c)) (λ c. search (needs, within2 t (c .before)))
     (λ c κs. search (needs, within2 t (c .before)))
     (λ c. search needs) (λ c. search (needs, within-right t c)) (λ c κs. search (needs, within-right t (c .before)))
     (λ c κs. search needs) (λ c. search needs) (λ c. search needs) (λ c. search needs) (returns t) (λ c. search needs) (returns-2 t)
-    (λ c. search needs) (returns-3 t) (λ c. search needs) (returns-4 t) (λ c. search needs) (returns-5 t) (returns-6 t)
+    (λ c. search needs) (returns-3 t) (λ c. search needs) (returns-4 t) (returns-5 t)
