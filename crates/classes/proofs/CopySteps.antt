@@ -4,7 +4,6 @@ use mathlib.Core.Bool.{Bool}
 use mathlib.Core.List.{List}
 use Prim.Native.Nat.{ℕ, _+_, _<_}
 use borrow.Author.Tests.{eq-eqb}
-use Rattle.limits.specs.Limits.{nodeLimit}
 use Rattle.operation.specs.declared.Two.{Two}
 use Rattle.definitions.specs.Same.{exchanges}
 use Rattle.node.specs.declared.Node.{Node}
@@ -13,33 +12,31 @@ use Rattle.node.specs.Nodes.{nodeAt}
 use Rattle.numbers.specs.Filled.{at}
 use Rattle.numbers.proofs.TableSides.{sides-told}
 use Rattle.classes.specs.declared.Copied.{Copied}
+use Rattle.classes.specs.declared.Sides.{Sides}
 use Rattle.classes.specs.declared.Sought.{Sought}
 use Rattle.classes.specs.Copies.{ordered, sideClasses, copied, copyOf, equalCopies}
 use Rattle.classes.specs.Classes.{SidesInside, nodeMix, alike}
 
-abbrev copy : (t w a b : ℕ) → Copied
-copy t w a b = record { tag = t; word = w; first = a; second = b }
-
-pub copy-agrees : {t u w x a c b d : ℕ} → t ≡ u → w ≡ x → a ≡ c → b ≡ d → copy t w a b ≡ copy u x c d
-copy-agrees p q r s = cc
-
--- the sides, the mix and the copy of a node that a match told
-pub told-inside : (i : ℕ) {x y : Node} → x ≡ y → SidesInside i x → SidesInside i y
-told-inside i e s = sides-told (λ a. a < nodeLimit) i e s
+-- the sides, the mix and the sides' classes of a node that a match told
+pub told-inside : (n i : ℕ) {x y : Node} → x ≡ y → SidesInside n i x → SidesInside n i y
+told-inside n i e s = sides-told (λ a. a < n) i e s
 
 pub told-mix : (f : ℕ → ℕ) (i : ℕ) {x y : Node} {r : ℕ} → x ≡ y → r ≡ nodeMix f i y → r ≡ nodeMix f i x
 told-mix f i e h = rw e h
 
-pub told-copy : (class : ℕ → ℕ) (i : ℕ) {x y : Node} {r : Copied} → x ≡ y → r ≡ copied x (sideClasses class i y) →
-    r ≡ copyOf class i x
-told-copy class i e h = rw e (rw e at h)
+pub told-sides : (class : ℕ → ℕ) (i : ℕ) {x y : Node} {r : Sides} → x ≡ y → r ≡ sideClasses class i y → r ≡ sideClasses class i x
+told-sides class i e h = rw e h
 
-pub binary-copy : (class : ℕ → ℕ) (i : ℕ) {x : Node} {o : Two} {right : ℕ} {k : Bool} {r : Copied} → x ≡ Binary o right →
-    k ≡ exchanges o → r ≡ copied (Binary o right) (ordered k (class (i + 1)) (class right)) → r ≡ copyOf class i x
-binary-copy class i e q h = rw e (rw q at h)
+pub binary-sides : (class : ℕ → ℕ) (i : ℕ) {x : Node} {o : Two} {right : ℕ} {k : Bool} {r : Sides} → x ≡ Binary o right →
+    k ≡ exchanges o → r ≡ ordered k (class (i + 1)) (class right) → r ≡ sideClasses class i x
+binary-sides class i e q h = rw e (rw q at h)
 
-pub alike-told : (ws cs mx : List ℕ) (x : Sought) (j : ℕ) {y : Node} {q : Copied} {r : Bool} → x .mix ≡ at mx j →
-    y ≡ nodeAt ws j → q ≡ copyOf (at cs) j y → r ≡ equalCopies (x .copy) q → r ≡ alike ws cs mx x j
+-- a copy is made of a node and its sides
+pub copy-told : (class : ℕ → ℕ) (i : ℕ) {x y : Node} {s : Sides} {q : Copied} → x ≡ y → s ≡ sideClasses class i x → q ≡ copied x s →
+    q ≡ copyOf class i y
+copy-told class i {x} e es eq = rw (← e) (eq ∙ ap (copied x) es)
+
+pub alike-told : (ws cs mx : List ℕ) (x : Sought) (j : ℕ) {q : Copied} {r : Bool} → x .mix ≡ at mx j →
+    q ≡ copyOf (at cs) j (nodeAt ws j) → r ≡ equalCopies (x .copy) q → r ≡ alike ws cs mx x j
 unfolding alike
-alike-told ws cs mx x j em ey eq er =
-    rw (eq-eqb (x .mix) (at mx j) em) (er ∙ ap (equalCopies (x .copy)) (eq ∙ ap (copyOf (at cs) j) ey))
+alike-told ws cs mx x j em eq er = rw (eq-eqb (x .mix) (at mx j) em) (er ∙ ap (equalCopies (x .copy)) eq)

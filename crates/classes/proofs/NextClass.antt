@@ -4,11 +4,10 @@ use mathlib.Core.Bool.{Bool, true, false, _&&_}
 use mathlib.Core.List.{List}
 use Prim.Native.Nat.{ℕ, suc, _+_, _-_, _<_, _≤_}
 use native.Mathlib.Omega.{arith}
-use lib.ListN.{length, set, replicate, length-set, length-replicate}
+use lib.ListN.{length, set, replicate, length-set}
 use lib.Seq.{getD-set-same, getD-set-other}
 use lib.Dec.{eqb}
 use borrow.Author.Tests.{eq-eqb, ne-eqb, eqb-true}
-use Rattle.limits.specs.Limits.{nodeLimit}
 use Rattle.definitions.specs.Tree.{Tree}
 use Rattle.definitions.specs.Same.{same}
 use Rattle.definitions.proofs.Sameness.{same-self, same-symmetric, same-transitive}
@@ -23,15 +22,16 @@ use Rattle.numbers.proofs.TableSides.{Between, sides-more, tree-node, sides-bet
 use Rattle.numbers.proofs.Filling.{from, filled-more}
 use Rattle.classes.specs.declared.Sought.{Sought}
 use Rattle.classes.specs.Copies.{copyOf, equalCopies}
-use Rattle.classes.specs.Classes.{Classed, SidesInside, nodeMix, slot, Linked, alike, ClassFound, hit, none}
+use Rattle.classes.specs.Classes.{Classed, SidesInside, Fitted, nodeMix, slotCount, slot, Linked, alike, ClassFound, hit, none}
 use Rattle.classes.proofs.CopiesTell.{agree, copies-tell}
 use Rattle.classes.proofs.Chains.{none-linked, linked-more}
+use Rattle.classes.proofs.Parts.{part, part-length}
 
--- a node of the table has its sides among the numbers of nodes
-pub sides-inside : {ws : List ℕ} {n i : ℕ} {x : Node} → Table ws n → i < n → x ≡ nodeAt ws i → SidesInside i x
-sides-inside {ws} {n} {i} t l e =
+-- a node of the table has its sides inside an array with a word for each node
+pub sides-inside : {ws : List ℕ} {n i size : ℕ} {x : Node} → Table ws n → size ≡ n → i < n → x ≡ nodeAt ws i → SidesInside size i x
+sides-inside {ws} {n} {i} {size} t q l e =
     rw e
-    (sides-more (Between i n) (λ a. a < nodeLimit) (λ a b. omega (arith, b .below, t .few)) i (nodeAt ws i) (sides-between t i l))
+    (sides-more (Between i n) (λ a. a < size) (λ a b. omega (arith, b .below)) i (nodeAt ws i) (sides-between t i l))
 
 mix-node : (f : ℕ → ℕ) (T : ℕ → Tree) (P : ℕ → Type 0) → ((a : ℕ) → P a → f a ≡ mix (T a)) →
     (i : ℕ) (x : Node) → OnSides P i x → nodeMix f i x ≡ mix (nodeTree T i x)
@@ -85,24 +85,18 @@ module _ (ws cs : List ℕ) (i n r : ℕ) (long : i < length cs) (low : i ≤ r)
 
 -- all that is kept of the nodes from i on
 pub record ClassedFrom (ws mx heads chain cs : List ℕ) (i n : ℕ) : Type 0 where
-  pub mxs : length mx ≡ nodeLimit
-  pub hds : length heads ≡ nodeLimit
-  pub chs : length chain ≡ nodeLimit
-  pub css : length cs ≡ nodeLimit
+  pub fitted : Fitted ws cs mx n
   pub mixed : Filled mix ws mx i n
   pub linked : Linked mx heads chain i n
   pub classed : Classed ws cs i n
 
-pub none-classed : (ws mx chain cs : List ℕ) (n : ℕ) → n ≤ nodeLimit → length mx ≡ nodeLimit → length chain ≡ nodeLimit →
-    length cs ≡ nodeLimit → ClassedFrom ws mx (replicate nodeLimit nodeLimit) chain cs n n
-none-classed ws mx chain cs n few a b c =
+pub none-classed : {ws mx chain cs : List ℕ} {n : ℕ} → Fitted ws cs mx n → length chain ≡ n →
+    ClassedFrom ws mx (replicate slotCount n) chain cs n n
+none-classed {mx = mx} {n = n} f long =
     record {
-      mxs = a;
-      hds = length-replicate {A = ℕ} nodeLimit nodeLimit;
-      chs = b;
-      css = c;
+      fitted = f;
       mixed = λ j h l. absurd (omega arith);
-      linked = none-linked mx chain n few;
+      linked = none-linked mx n long;
       classed =
           record {
             tells = λ j k h l. absurd (omega arith);
@@ -112,11 +106,14 @@ none-classed ws mx chain cs n few a b c =
     }
 
 -- node i, with what is kept of the nodes after it: x is what the search for its class looks for
-module _ (ws mx heads chain cs : List ℕ) (n : ℕ) (t : Table ws n) (x : Sought) (l : x .node < n)
+module _ (ws mx heads chain cs : List ℕ) (n : ℕ) (x : Sought) (l : x .node < n)
     (old : ClassedFrom ws mx heads chain cs (suc (x .node)) n) (e : x .mix ≡ nodeMix (at mx) (x .node) (nodeAt ws (x .node)))
     (q : x .copy ≡ copyOf (at cs) (x .node) (nodeAt ws (x .node))) where
   abbrev i : ℕ
   i = x .node
+
+  t : Table ws n
+  t = old .fitted .table
 
   -- a copy equal to that of node i is that of a same tree
   same-now : (j : ℕ) → i < j → j < n → equalCopies (x .copy) (copyOf (at cs) j (nodeAt ws j)) ≡ same (tree ws i) (tree ws j)
@@ -174,21 +171,22 @@ module _ (ws mx heads chain cs : List ℕ) (n : ℕ) (t : Table ws n) (x : Sough
         ClassedFrom ws (set mx i (x .mix)) (set heads b i) (set chain i (at heads b)) (set cs i r) i n
     classed-next e′ =
         let m = x .mix in
+        let sized = old .fitted in
         rw e′
         record {
-          mxs = length-set mx i m ∙ old .mxs;
-          hds = length-set heads (slot m) i ∙ old .hds;
-          chs = length-set chain i (at heads (slot m)) ∙ old .chs;
-          css = length-set cs i r ∙ old .css;
-          mixed = filled-more mix ws mx i n m (omega (arith, old .mxs, t .few)) mix-now (old .mixed);
-          linked =
-              linked-more mx heads chain i n m (omega (arith, old .mxs, t .few)) (omega (arith, old .chs, t .few)) (old .hds)
-              (old .linked);
+          fitted = record { table = t; css = length-set cs i r ∙ sized .css; mxs = length-set mx i m ∙ sized .mxs };
+          mixed = filled-more mix ws mx i n m (omega (arith, sized .mxs)) mix-now (old .mixed);
+          linked = linked-more mx heads chain i n m l (sized .mxs) (old .linked);
           classed =
-              classed-more ws cs i n r (omega (arith, old .css, t .few)) (class-between .0) (class-between .1) (old .classed) row-of;
+              classed-more ws cs i n r (omega (arith, sized .css)) (class-between .0) (class-between .1) (old .classed) row-of;
         }
 
 -- as the loop has it: the node before o
 pub classed-before : {ws mx heads chain cs : List ℕ} {o n : ℕ} → 0 < o → ClassedFrom ws mx heads chain cs o n →
     ClassedFrom ws mx heads chain cs (suc (o - 1)) n
 classed-before {o = o} z old = let e : suc (o - 1) ≡ o = omega arith in rw e old
+
+-- either pair of arrays, as far as there are nodes
+pub parts-fitted : {ws cs : List ℕ} {n : ℕ} (mx chain : List ℕ) → Table ws n → length cs ≡ n → n ≤ length mx → n ≤ length chain →
+    Fitted ws cs (part n mx) n × (length (part n chain) ≡ n)
+parts-fitted {n = n} mx chain t c h k = (record { table = t; css = c; mxs = part-length n mx h }, part-length n chain k)

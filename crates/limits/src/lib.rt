@@ -17,6 +17,12 @@ pub const STATEMENTS: usize = 256;
 
 pub const NODES: usize = 1024;
 
+// The nodes of a small sheet, for which sharing clears less memory.
+pub const SMALL: usize = 128;
+
+// The chains that sharing puts nodes into by their mixes: so many that few nodes share one.
+pub const SLOTS: usize = 1024;
+
 // The levels of a tree, and of a tree below a root.
 pub const DEPTH: u32 = 64;
 

@@ -4,7 +4,6 @@ use mathlib.Core.List.{List}
 use Prim.Native.Nat.{ℕ, _+_, _-_, _<_, _≤_}
 use native.Mathlib.Omega.{arith}
 use lib.ListN.{length, length-set, set}
-use Rattle.limits.specs.Limits.{nodeLimit}
 use Rattle.definitions.specs.Tree.{Tree, constant, variable, one, two, ershov, depth}
 use Rattle.definitions.proofs.Evaluation.{join-covers}
 use Rattle.node.specs.declared.Node.{Node}
@@ -34,10 +33,10 @@ ershov-node f T P h i (Binary o r) s = rw (h (i + 1) (s .0), h r (s .1))
 -- the nodes from i on have their numbers
 pub record FilledFrom (ws es : List ℕ) (i n : ℕ) : Type 0 where
   pub upto : i ≤ n
-  pub long : length es ≡ nodeLimit
+  pub long : length es ≡ n
   pub filled : Filled ershov ws es i n
 
-pub none-filled : {ws es : List ℕ} {n : ℕ} → length es ≡ nodeLimit → FilledFrom ws es n n
+pub none-filled : {ws es : List ℕ} {n : ℕ} → length es ≡ n → FilledFrom ws es n n
 none-filled l = record { upto = omega arith; long = l; filled = λ j h k. absurd (omega arith) }
 
 pub all-filled : {ws es : List ℕ} {i n : ℕ} → FilledFrom ws es i n → i ≤ 0 → Filled ershov ws es 0 n
@@ -55,7 +54,7 @@ module _ {ws es : List ℕ} {i n : ℕ} {x : Node} (g : FilledFrom ws es i n) (p
   low-side : (a : ℕ) → Between (i - 1) n a → LowSide es a
   low-side a b =
       record {
-        inside = omega (arith, b .below, t .few);
+        inside = omega (arith, b .below, g .long);
         low = omega (arith, after a b, ershov-depth (tree ws a), tree-depth ws a (t .laid a (b .below)));
       }
 
@@ -72,6 +71,6 @@ module _ {ws es : List ℕ} {i n : ℕ} {x : Node} (g : FilledFrom ws es i n) (p
       record {
         upto = omega (arith, below);
         long = simp length-set (g .long);
-        filled = filled-more ershov ws es (i - 1) n v (omega (arith, below, g .long, t .few)) (q ∙ number-told)
+        filled = filled-more ershov ws es (i - 1) n v (omega (arith, below, g .long)) (q ∙ number-told)
             (λ j h l. after j (record { after = h; below = l }));
       }

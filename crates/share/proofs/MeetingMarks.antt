@@ -6,6 +6,7 @@ use mathlib.Core.List.{List, [], _∷_, _++_}
 use Prim.Native.Nat.{ℕ, _+_, _-_, _<_, _≤_}
 use native.Mathlib.Omega.{arith}
 use lib.ListN.{length, set, getElem?, length-set, length-append}
+use lib.Seq.{getD-set-other}
 use lib.Dec.{eqb, leb}
 use borrow.Author.Tests.{eqb-true, eqb-false, eq-eqb, le-leb}
 use Rattle.definitions.specs.Tree.{weight}
@@ -15,13 +16,14 @@ use Rattle.node.specs.Nodes.{tree, Table}
 use Rattle.numbers.specs.Filled.{at}
 use Rattle.classes.specs.Classes.{Classed}
 use Rattle.node.specs.Marks.{markOf}
-use Rattle.share.specs.Sharing.{ClassesBelow, MeetReady, Noted, Walked}
+use Rattle.share.specs.Sharing.{ClassNumbers, MeetReady, Noted, Walked}
 use Rattle.share.proofs.Texts.{among-mark, mark-new, mark-kept, note-light, note-first, note-second, note-later}
 use Rattle.share.proofs.Texts.{text-kept, text-last}
 use Rattle.share.proofs.Unused.{at-set, unused-first, unused-second}
 
-pub classes-below : {ws cs : List ℕ} {n : ℕ} → Table ws n → Classed ws cs 0 n → ClassesBelow cs n
-classes-below t q = record { few = t .few; below = λ i l. q .below i (omega arith) l }
+pub class-numbers : {ws cs : List ℕ} {n : ℕ} → Table ws n → Classed ws cs 0 n → ClassNumbers cs n
+class-numbers t q =
+    record { few = t .few; above = λ i l. q .above i (omega arith) l; below = λ i l. q .below i (omega arith) l }
 
 module _ {ws cs : List ℕ} {n : ℕ} {ms tx : List ℕ} {i k : ℕ} (r : MeetReady ws cs n ms tx i k) where
   tells : (j : ℕ) → j < n → same (tree ws i) (tree ws j) ≡ eqb (at cs i) (at cs j)
@@ -32,6 +34,10 @@ module _ {ws cs : List ℕ} {n : ℕ} {ms tx : List ℕ} {i k : ℕ} (r : MeetRe
 
   room : at cs i < length ms
   room = omega (arith, class-below, r .table .few, r .fits .marks)
+
+  -- a mark that is set is not past the nodes
+  past-kept : (v j : ℕ) → n ≤ j → at (set ms (at cs i) v) j ≡ 0
+  past-kept v j h = getD-set-other ms (at cs i) j v 0 (λ e. omega (arith, class-below)) ∙ r .fits .past j h
 
   -- a class without a temporary leaves room for one
   pub room-more : at ms (at cs i) ≡ 1 → k < n
@@ -108,6 +114,7 @@ module _ {ws cs : List ℕ} {n : ℕ} {ms tx : List ℕ} {i k : ℕ} (r : MeetRe
                 marks = length-set ms (at cs i) 1 ∙ r .fits .marks;
                 places = r .fits .places;
                 room = omega (arith, r .fits .room, unused-first n ms (at cs i) class-below room z);
+                past = past-kept 1;
               };
           noted = first-noted z;
         }
@@ -179,6 +186,7 @@ module _ {ws cs : List ℕ} {n : ℕ} {ms tx : List ℕ} {i k : ℕ} (r : MeetRe
                 marks = length-set ms (at cs i) (k + 2) ∙ r .fits .marks;
                 places = length-set tx k i ∙ r .fits .places;
                 room = omega (arith, r .fits .room, unused-second n ms (at cs i) class-below room k z);
+                past = past-kept (k + 2);
               };
           noted = second-noted z;
         }
