@@ -170,8 +170,3 @@ pub fn shapes() -> Vec<Shape> {
     ];
     all.into_iter().map(|(name, file)| Shape { name, file }).collect()
 }
-
-/// What `tests/slowest` found, kept as a file.
-pub fn worst() -> Vec<u8> {
-    include_bytes!("../slowest.sheet").to_vec()
-}

@@ -24,6 +24,8 @@ const TURNS: usize = 9;
 struct Kept {
     file: Vec<u8>,
     time: Duration,
+    /// The sheet that it was changed from, step by step.
+    origin: &'static str,
 }
 
 struct Search {
@@ -44,7 +46,7 @@ impl Search {
     }
 
     /// Keeps a sheet that has a list, if it is slow enough.
-    fn offer(&mut self, file: Vec<u8>) -> bool {
+    fn offer(&mut self, file: Vec<u8>, origin: &'static str) -> bool {
         let time = self.time(&file);
         let fastest = self.kept.last().map_or(Duration::ZERO, |kept| kept.time);
         if (self.kept.len() == KEPT && time <= fastest) || expected(&file).is_err() {
@@ -53,7 +55,7 @@ impl Search {
         // A second look, so that no interruption is taken for slowness.
         let time = time.min(self.time(&file));
         let place = self.kept.partition_point(|kept| kept.time >= time);
-        self.kept.insert(place, Kept { file, time });
+        self.kept.insert(place, Kept { file, time, origin });
         self.kept.truncate(KEPT);
         place == 0
     }
@@ -129,14 +131,15 @@ impl Search {
     }
 
     /// One kept sheet, changed a few times.
-    fn mutant(&mut self) -> Option<Vec<u8>> {
+    fn mutant(&mut self) -> Option<(Vec<u8>, &'static str)> {
         let from = self.random.within(0, self.kept.len() - 1);
         let mut sheet = Sheet::read(&self.kept[from].file).expect("a sheet");
         for _ in 0..self.random.within(1, 6) {
             self.change(&mut sheet);
         }
         let file = sheet.write(&vec![Vec::new(); sheet.statements.len() + 1]);
-        (sheet.nodes() <= NODE_LIMIT && Sheet::read(&file).is_ok()).then_some(file)
+        let fits = sheet.nodes() <= NODE_LIMIT && Sheet::read(&file).is_ok();
+        fits.then_some((file, self.kept[from].origin))
     }
 }
 
@@ -147,23 +150,27 @@ fn main() {
     let random = Random::new(seed, 0);
     let mut search = Search { random, work: vec![0; WORDS], out: vec![0; WORDS], kept: Vec::new() };
     for shape in shapes() {
-        search.offer(shape.file);
+        search.offer(shape.file, shape.name);
     }
     for (sharing, many_repeats) in [(true, false), (true, true)] {
         for file in accepted(seed, Set { nodes: NODE_LIMIT, sharing, many_repeats }, 20) {
-            search.offer(file);
+            search.offer(file, "a sheet of the series");
         }
     }
     let end = Instant::now() + Duration::from_secs(seconds);
     let (mut tried, mut better) = (0u64, 0u64);
     while Instant::now() < end {
-        if let Some(file) = search.mutant() {
+        if let Some((file, origin)) = search.mutant() {
             tried += 1;
-            better += u64::from(search.offer(file));
+            better += u64::from(search.offer(file, origin));
         }
     }
     let slowest = &search.kept[0];
     std::fs::write("tests/slowest.sheet", &slowest.file).expect("a file");
     let nodes = Sheet::read(&slowest.file).expect("a sheet").nodes();
-    println!("{tried} sheets tried, {better} times a slower one; the slowest takes {:?}, of {nodes} nodes", slowest.time);
+    println!(
+        "the slowest takes {:?}: {nodes} nodes, changed from: {}",
+        slowest.time, slowest.origin
+    );
+    println!("{tried} sheets tried, {better} times a slower one");
 }

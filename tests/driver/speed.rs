@@ -15,7 +15,7 @@ use oracle::series::{accepted, Set};
 use oracle::sheet::Sheet;
 
 use crate::library::compile;
-use crate::shapes::{nested_calls, shapes, worst, Shape};
+use crate::shapes::{nested_calls, shapes, Shape};
 
 const WORDS: usize = 16_384;
 const SEED: u64 = 1;
@@ -25,6 +25,8 @@ const SIZES: [usize; 4] = [16, 64, 256, 1_024];
 const IN_A_SET: usize = 200;
 /// Each side is timed so often, in turns; the fastest turn counts, since others only add to a time.
 const TURNS: usize = 15;
+/// What `tests/slowest` found.
+const SLOWEST: &[u8] = include_bytes!("../slowest.sheet");
 /// A shape's one sheet is compiled so often in a turn.
 const AGAIN: usize = 40;
 /// What no shape may pass, in times of the median sheet of its size, and growth where sheets or calls are four times as many.
@@ -199,7 +201,7 @@ fn main() -> ExitCode {
     println!();
     heading("shapes of about 1,024 nodes");
     let mut hard = shapes();
-    hard.push(Shape { name: "the slowest that mutation found", file: worst() });
+    hard.push(Shape { name: "the slowest that mutation found", file: SLOWEST.to_vec() });
     let (least_shape, longest) = table(&hard, &mut lent);
     let largest: Vec<Vec<u8>> = shown.into_iter().flat_map(|set| set.largest).collect();
     let middle = median(&largest, &mut lent);

@@ -100,7 +100,7 @@ module _ {ws rows ms : List ℕ} {n count : ℕ} (held : SheetHeld ws rows n cou
       record {
         table = held .table;
         wide = unmarked .wide;
-        room = omega (arith, rows-spend-one 0 count (omega arith), zeros-most ms n, held .few, held .table .few);
+        long = held .long;
         low = omega arith;
         small = λ j. omega (arith, unmarked .blank j);
         unmade = λ j l. own-row Unmade j l tt;
@@ -119,6 +119,7 @@ module _ {ws rows ms : List ℕ} {n count : ℕ} (held : SheetHeld ws rows n cou
       record {
         given = refl;
         handed = own-handed;
+        room = omega (arith, rows-spend-one 0 count (omega arith), zeros-most ms n);
         statements = λ temporary.
             rows-say temporary 0 count (omega arith) ∙ sym (eliminate-none temporary [] (sheetFrom ws rows 0 count));
       }

@@ -1,13 +1,13 @@
 -- The two steps of an answer in code: trimmed statements as rows, and then their list.
 use mathlib.Core.Path.{_≡_}
-use Prim.Native.Nat.{ℕ, _<_, _≤_}
+use Prim.Native.Nat.{ℕ, _+_, _<_, _≤_}
 use mathlib.Core.Bool.{true, false}
 use mathlib.Core.List.{List, []}
 use lib.ListN.{length, getD}
-use Rattle.limits.specs.Limits.{indexEnd, rowLimit, temporaryLimit}
+use Rattle.limits.specs.Limits.{indexEnd, rowLimit, rowsLength, temporaryLimit}
 use Rattle.symbol.specs.declared.Loc.{Loc}
 use Rattle.header.specs.declared.Header.{Header}
-use Rattle.header.specs.Settings.{headerOf}
+use Rattle.header.specs.Settings.{headerOf, InScratch}
 use Rattle.definitions.specs.Statement.{Statement}
 use Rattle.definitions.specs.Sheet.{got, bad}
 use Rattle.definitions.specs.Trim.{Trimming, trimAll, tooWide}
@@ -16,8 +16,9 @@ use Rattle.node.specs.Nodes.{Table}
 use Rattle.node.specs.Views.{Fresh}
 use Rattle.ershov.specs.Number.{Ershovs}
 use Rattle.statement.specs.declared.State.{State}
-use Rattle.statement.specs.Rows.{rowsFrom, statementsOf}
+use Rattle.statement.specs.Rows.{RoomFor, rowsFrom, statementsOf}
 use Rattle.statement.specs.Rowing.{All, OnRoot, NumberedBelow}
+use Rattle.statement.specs.Handover.{SheetHeld, Unmarked}
 use Rattle.calls.specs.declared.Settings.{Settings}
 use Rattle.reader.specs.Reads.{SheetRead}
 use Rattle.builder.specs.declared.Answer.{Answer}
@@ -41,10 +42,24 @@ pub record Listable (ws ms es rs : List ℕ) (s : State) : Type 0 where
   pub table : Table ws nodes
   pub numbers : Ershovs ws ms es 0 nodes
   pub few : s .count ≤ rowLimit
+  pub long : RoomFor rs (s .count)
   pub low : s .next ≤ temporaryLimit
   pub small : (j : ℕ) → getD ms j 0 ≤ s .next
   pub named : All (NumberedBelow (s .next)) (rowsFrom rs 0 (s .count))
   pub placed : All (OnRoot (λ i. i < nodes)) (rowsFrom rs 0 (s .count))
+
+-- what trimming goes by, of a sheet of n nodes
+abbrev pub settingsOf : (h : Header) (n : ℕ) → Settings
+settingsOf h n = record { nodes = n; scratch = h .scratch; sharing = h .sharing }
+
+-- a sheet that was read, no node marked, no call chained, and words for the rows of trimmed statements
+pub record TrimReady (h : Header) (ws rows : List ℕ) (n : ℕ) (ms es rs : List ℕ) : Type 0 where
+  pub held : SheetHeld ws rows n (h .count)
+  pub scratch : InScratch h
+  pub marks : Unmarked ms
+  pub chains : Unmarked es
+  pub room : RoomFor rs (h .count + n)
+  pub short : length rs ≤ rowsLength
 
 -- what trimming makes of the statements of the rows er, by the definition
 abbrev pub trimsRows : (g : Settings) (ws ms er : List ℕ) (e : State) (places : ℕ → Loc) → Trimming

@@ -2,20 +2,19 @@
 use mathlib.Core.Path.{_≡_, refl, sym, ap, _∙_}
 use mathlib.Core.Bool.{cond}
 use mathlib.Core.List.{List}
-use mathlib.Core.Logic.{_≢_}
 use Prim.Native.Nat.{ℕ, _+_, _-_, _*_, _<_, _≤_}
 use native.Mathlib.Omega.{arith}
 use lib.ListN.{length, getD, set, length-set}
 use lib.Seq.{sets, getD-set-same, getD-set-other}
 use lib.Dec.{eqb}
 use borrow.Author.Tests.{eq-eqb, ne-eqb}
-use Rattle.limits.specs.Limits.{nodeLimit, rowLimit, rowsLength}
+use Rattle.limits.specs.Limits.{nodeLimit}
 use Rattle.symbol.specs.declared.Loc.{Loc}
 use Rattle.node.specs.Views.{seen}
 use Rattle.node.proofs.Nodes.{below-or, equal-or}
 use Rattle.statement.specs.declared.Row.{Row}
 use Rattle.statement.specs.declared.Row.the-variants.{Given, Copied, Kept, Passed, Made}
-use Rattle.statement.specs.Rows.{rowWords, callWords, HasLink, linkAt, rowAt, rowsFrom}
+use Rattle.statement.specs.Rows.{RoomFor, rowWords, callWords, HasLink, linkAt, rowAt, rowsFrom}
 use Rattle.statement.specs.Rowing.{All, OnRoot, Unmade}
 use Rattle.statement.proofs.RowsPut.{row-back, row-before, kind-before, unmade-kind, call-back}
 use Rattle.statement.proofs.EveryRow.{all-row}
@@ -66,7 +65,9 @@ pub keyed-still : {ws ms rs heads : List ℕ} {count : ℕ} (ms′ : List ℕ) �
 keyed-still {ws} {ms} {rs} {heads} {count} ms′ still x =
     record {
       key = x .key;
-      mixed = λ k l. on-root _ _ (rowAt rs k) (x .mixed k l) (mix-still k (rowAt rs k) (λ temporary. all-row _ rs count k (still temporary) l));
+      mixed = λ k l.
+          on-root _ _ (rowAt rs k) (x .mixed k l)
+          (mix-still k (rowAt rs k) (λ temporary. all-row _ rs count k (still temporary) l));
       starts = x .starts;
       goes = x .goes;
       wide = x .wide;
@@ -124,7 +125,7 @@ module _ (key key′ : ℕ → ℕ) (rs : List ℕ) (count : ℕ) (xs : List ℕ
 
 -- ---- a row that makes no call is put
 
-module _ (rs : List ℕ) (count : ℕ) (row : Row) (unmade : Unmade row) (long : length rs ≡ rowsLength) (few : count < rowLimit) where
+module _ (rs : List ℕ) (count : ℕ) (row : Row) (unmade : Unmade row) (room : RoomFor rs (count + 1)) where
   here : rowAt (sets rs (3 * count) (rowWords row)) count ≡ row
   here = row-back rs count row (omega arith)
 
@@ -148,7 +149,7 @@ module _ (rs : List ℕ) (count : ℕ) (row : Row) (unmade : Unmade row) (long :
 
 -- ---- a call is put, at the head of its chain
 
-module _ (i m next : ℕ) {ws ms rs heads : List ℕ} {count : ℕ} (long : length rs ≡ rowsLength) (few : count < rowLimit)
+module _ (i m next : ℕ) {ws ms rs heads : List ℕ} {count : ℕ} (room : RoomFor rs (count + 1))
     (ours : SeenMix ws ms i m) (x : Keyed ws ms rs heads count) where
   abbrev link : ℕ
   link = getD heads (slot m) 0

@@ -4,9 +4,8 @@ use mathlib.Core.Bool.{Bool, true, false, false≢true}
 use mathlib.Core.List.{List, [], _∷_}
 use mathlib.Core.Logic.{_≢_}
 use mathlib.Core.Option.{Option, none, some}
-use Prim.Native.Nat.{ℕ, zero, suc, _+_, _-_, _*_, _<_, _≤_}
+use Prim.Native.Nat.{ℕ, zero, suc, _+_, _-_, _<_, _≤_}
 use native.Mathlib.Omega.{arith}
-use native.Mathlib.Nat.{add-zero}
 use borrow.Author.Tests.{eq-eqb, ne-eqb}
 use lib.ListN.{getD, set, length-set}
 use Rattle.limits.specs.Limits.{nodeLimit, temporaryLimit}
@@ -22,12 +21,12 @@ use Rattle.statement.specs.declared.Row.{Row}
 use Rattle.statement.specs.declared.Row.the-variants.{Given, Copied, Kept, Passed, Made}
 use Rattle.statement.specs.declared.State.{State}
 use Rattle.statement.specs.Rows.{HasLink, linkAt, rowAt, rowsFrom, rowStatement, statementsOf}
-use Rattle.statement.specs.Rowing.{All, Unmade, NumberedBelow}
+use Rattle.statement.specs.Rowing.{All}
 use Rattle.statement.proofs.EveryRow.{all-one, all-row, rows-left, roots-map, named-up}
 use Rattle.compare.specs.Comparison.{Comparable}
 use Rattle.keys.specs.Keys.{SeenMix}
 use Rattle.calls.specs.declared.Trimmed.{Trimmed}
-use Rattle.calls.specs.Index.{slot, OnMade, Mixed, LastOf, Linked, Keyed, Indexed, Sought, SeekReady}
+use Rattle.calls.specs.Index.{slot, LastOf, Keyed, Sought, SeekReady}
 use Rattle.calls.specs.Calls.{CallSought, CallFresh, foundAs, orElse, CallFound, CallReady, CallMade, CallBroken, found, made}
 use Rattle.calls.proofs.OneRow.{other-mix-misses, unmade-misses}
 use Rattle.calls.proofs.Keying.{keyed-called}
@@ -267,4 +266,4 @@ module _ {ws ms rs : List ℕ} {n i : ℕ} {s : State} (ready : CallReady ws ms 
           CallBroken true ws ms rs rs′ hs (set hs at (s .count + 1)) n i s r
       broken-made q x =
           made (getD hs at 0) x (λ temporary f. rw q at (h .is temporary (ready-fresh f)))
-          (length-set hs at (s .count + 1)) (λ on. rw (x .put, e) (keyed-called i m (s .next) (ready .long) (ready .few) ours keyed))
+          (length-set hs at (s .count + 1)) (λ on. rw (x .put, e) (keyed-called i m (s .next) (ready .room) ours keyed))

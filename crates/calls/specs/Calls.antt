@@ -7,14 +7,14 @@ use mathlib.Core.Option.{Option, none, some}
 use lib.ListN.{length}
 use lib.Seq.{sets}
 use lib.Dec.{eqb}
-use Rattle.limits.specs.Limits.{rowLimit, rowsLength, temporaryLimit}
+use Rattle.limits.specs.Limits.{rowLimit, temporaryLimit}
 use Rattle.symbol.specs.declared.Loc.{Loc}
 use Rattle.definitions.specs.Trim.{seek}
 use Rattle.node.specs.Nodes.{nodeAt, endAt, isFunction, Table}
 use Rattle.node.specs.Views.{seen, Fresh}
 use Rattle.statement.specs.declared.Row.{Row}
 use Rattle.statement.specs.declared.State.{State}
-use Rattle.statement.specs.Rows.{callWords, rowsFrom, statementsOf}
+use Rattle.statement.specs.Rows.{RoomFor, callWords, rowsFrom, statementsOf}
 use Rattle.statement.specs.Rowing.{All, OnRoot, NumberedBelow}
 use Rattle.compare.specs.Comparison.{Comparable}
 use Rattle.keys.specs.Keys.{MarksLow}
@@ -58,7 +58,7 @@ pub record CallReady (ws ms rs : List ℕ) (n i : ℕ) (s : State) : Type 0 wher
   pub called : isFunction (nodeAt ws i) ≡ true
   pub few : s .count < rowLimit
   pub low : s .next < temporaryLimit
-  pub long : length rs ≡ rowsLength
+  pub room : RoomFor rs (s .count + 1)
   pub marks : MarksLow ms
   pub placed : All (OnRoot (λ b. b < n)) (rowsFrom rs 0 (s .count))
   pub named : All (NumberedBelow (s .next)) (rowsFrom rs 0 (s .count))

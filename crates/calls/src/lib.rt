@@ -1,16 +1,14 @@
 // Calls: an earlier one that is the same is sought, and a new one gets a row and a temporary.
 use limits::NODES;
 use limits::PerNode;
-use limits::Rows;
 use statement::Row;
 use statement::State;
 ghost use mathlib.Core.Path.{_≡_};
 ghost use mathlib.Core.Bool.{true};
 ghost use mathlib.Core.List.{[], _∷_};
-ghost use Prim.Native.Nat.{_<_, _≤_};
+ghost use Prim.Native.Nat.{_+_, _<_, _≤_};
 ghost use Rattle.limits.specs.Limits.{rowLimit, temporaryLimit};
-ghost use Rattle.statement.specs.Rows.{rowsFrom};
-ghost use Rattle.keys.specs.Keys.{MarksLow};
+ghost use Rattle.statement.specs.Rows.{RoomFor, rowsFrom};
 ghost use Rattle.calls.specs.Index.{slot, Indexed, Keyed, SeekReady};
 ghost use Rattle.calls.specs.Calls.{CallSought, CallFound, orElse, CallReady, CallMade, CallBroken};
 
@@ -66,9 +64,9 @@ fn or_else(m: u32, later: u32) -> u32
 }
 
 // 1 + the temporary of the first of count rows that makes the same call as node i, or 0: by the links of its chain, from its last row.
-fn seek(ws: &[u32], ms: &PerNode, rs: &Rows, i: u32, last: u32, count: u32) -> u32
+fn seek(ws: &[u32], ms: &PerNode, rs: &[u32], i: u32, last: u32, count: u32) -> u32
     requires { ⌜ SeekReady (now ws) (now ms) (now rs) i last count × CallSought (now ws) i (rowsFrom (now rs) 0 count)
-        × (count ≤ rowLimit) ⌝ }
+        × RoomFor (now rs) count ⌝ }
     ensures { λ r. ⌜ CallFound (now (ws .entry)) (now (ms .entry)) i (rowsFrom (now (rs .entry)) 0 count) r ⌝ }
 {
     let mut found = 0;
@@ -84,8 +82,8 @@ fn seek(ws: &[u32], ms: &PerNode, rs: &Rows, i: u32, last: u32, count: u32) -> u
 }
 
 // A row for the call of node i, linked to another of its chain, and the next temporary.
-fn new_call(rs: &mut Rows, i: u32, s: State, link: u32) -> Trimmed
-    requires { ⌜ (s .count < rowLimit) × (s .next < temporaryLimit) × (link ≤ s .count) ⌝ }
+fn new_call(rs: &mut [u32], i: u32, s: State, link: u32) -> Trimmed
+    requires { ⌜ RoomFor (now rs) (s .count + 1) × (s .count < rowLimit) × (s .next < temporaryLimit) × (link ≤ s .count) ⌝ }
     ensures { λ r. ⌜ CallMade (now (rs .entry)) (now (rs .exit)) i s link r ⌝ }
 {
     statement::put_call(rs, s.count, s.next, i, link);
@@ -105,7 +103,7 @@ fn shared_call(
     i: u32,
     n: u32,
     ms: &PerNode,
-    rs: &mut Rows,
+    rs: &mut [u32],
     heads: &mut PerNode,
     s: State,
 ) -> Trimmed
@@ -135,7 +133,7 @@ pub fn break_call(
     i: u32,
     g: Settings,
     ms: &PerNode,
-    rs: &mut Rows,
+    rs: &mut [u32],
     heads: &mut PerNode,
     s: State,
 ) -> Trimmed

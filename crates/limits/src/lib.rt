@@ -34,6 +34,9 @@ pub const INDEXES: u32 = 65536;
 // Rows of statements: the sheet's own, and one for each node's mark.
 pub const ROWS: usize = STATEMENTS + NODES;
 
+// And those of a small sheet.
+pub const SMALL_ROWS: usize = 160;
+
 // The bytes of a printed line, and of an answer's text: its first line, and a line for each six words of output.
 pub const LINE: usize = 128;
 
@@ -41,9 +44,6 @@ pub const TEXT: usize = LINE * (WORK / 6 + 1);
 
 // A word for each node, or for each of as many temporaries.
 pub type PerNode = [u32; NODES];
-
-// Three words a row.
-pub type Rows = [u32; 3 * ROWS];
 
 // The array sizes and the depth are those of the definitions; contracts elsewhere hold the other limits to theirs.
 pub fn nodes() -> usize

@@ -7,7 +7,7 @@ use native.Mathlib.Omega.{arith}
 use lib.ListN.{length, getD}
 use lib.Dec.{eqb}
 use borrow.Author.Tests.{ne-eqb}
-use Rattle.limits.specs.Limits.{depthLimit, nodeLimit, rowLimit, rowsLength}
+use Rattle.limits.specs.Limits.{depthLimit, nodeLimit}
 use Rattle.symbol.specs.declared.Loc.{Loc}
 use Rattle.symbol.specs.Place.{wordPlace}
 use Rattle.operation.specs.declared.One.{One}
@@ -23,7 +23,7 @@ use Rattle.node.proofs.Nodes.{tree-depth, unpacked-tree, table-sides}
 use Rattle.node.proofs.Views.{view-unmarked, view-marked}
 use Rattle.statement.specs.declared.Row.{Row}
 use Rattle.statement.specs.declared.Row.the-variants.{Given, Copied, Kept}
-use Rattle.statement.specs.Rows.{rowStatement, statementsOf}
+use Rattle.statement.specs.Rows.{RoomFor, rowStatement, statementsOf}
 use Rattle.statement.specs.Rowing.{spend}
 use Rattle.statement.proofs.RowsPut.{rows-put, put-length, statements-append}
 use Rattle.rewrite.specs.Stage.{Stage, stage, rowsOf, Flagged, pledged, RowShared, RootIs}
@@ -55,13 +55,13 @@ module _ {n : ℕ} {texts : List Tree} {ws sh : List ℕ} {p : Stage} where
   rewrote-equal e x = rewrote-as (λ T st. (ap (λ (y : Rewritten). y .stored) (e T st), ap (λ (y : Rewritten). y .before) (e T st))) x
 
   -- one that stores nothing
-  rewrote-none : {f : Rewriter} → length (p .flags) ≡ nodeLimit → length (p .rows) ≡ rowsLength →
+  rewrote-none : {f : Rewriter} → length (p .flags) ≡ nodeLimit →
       ((T : ℕ → Loc) (st : List ℕ) → Flagged (p .flags) st → (f T st .stored ≡ st) × (f T st .before ≡ [])) →
       TextsStored n texts ws sh p p f
-  rewrote-none l k e =
+  rewrote-none l e =
       record {
         flags = l;
-        rows = k;
+        rows = refl;
         room = omega arith;
         added = added-none;
         puts = λ T st h.
@@ -73,16 +73,15 @@ module _ {n : ℕ} {texts : List Tree} {ws sh : List ℕ} {p : Stage} where
 
 -- a row more, which says what the rewriting y stores after x
 row-put : {T : ℕ → Loc} {ws sh : List ℕ} {rs : List Row} {x y : Rewritten} (p : Stage) (r : Row) →
-    length (p .rows) ≡ rowsLength → p .count < rowLimit → y .stored ≡ x .stored →
-    y .before ≡ x .before ++ (rowStatement T ws sh r ∷ []) →
+    RoomFor (p .rows) (p .count + 1) → y .stored ≡ x .stored → y .before ≡ x .before ++ (rowStatement T ws sh r ∷ []) →
     Puts T ws sh rs p x → Puts T ws sh rs (put p r) y
 unfolding statementsOf
-row-put {T} {ws} {sh} {rs} {x} p r l h e g q =
+row-put {T} {ws} {sh} {rs} {x} p r h e g q =
     let before = statementsOf T ws sh rs in
     let last = rowStatement T ws sh r ∷ [] in
     record {
       stored = rw e (q .stored);
-      rows = ap (statementsOf T ws sh) (rows-put (p .rows) (p .count) r l h)
+      rows = ap (statementsOf T ws sh) (rows-put (p .rows) (p .count) r h)
           ∙ statements-append T ws sh (rowsOf p) (r ∷ [])
           ∙ ap (λ (l : List Statement). l ++ last) (q .rows)
           ∙ append-assoc before (x .before) last
@@ -163,10 +162,10 @@ module _ {ws sh tx : List ℕ} {i n : ℕ} {texts : List Tree} (a : NodeShared w
 
     pub sides-leaf : {m : Node} → r ≡ m →
         ((T : ℕ → Loc) (st : List ℕ) → inside texts T st (nodeTree (tree ws) i m) ≡ kept st (nodeTree (tree ws) i m)) →
-        length (p .flags) ≡ nodeLimit → length (p .rows) ≡ rowsLength → TextsStored n texts ws sh p p (atSides ws i texts)
-    sides-leaf e f l k =
+        length (p .flags) ≡ nodeLimit → TextsStored n texts ws sh p p (atSides ws i texts)
+    sides-leaf e f l =
         sides-by (node-tree e)
-        (rewrote-none l k
+        (rewrote-none l
         (λ T st h. (ap (λ (y : Rewritten). y .stored) (f T st), ap (λ (y : Rewritten). y .before) (f T st))))
 
     pub sides-one : {o : One} → r ≡ UnaryNode o → {p′ : Stage} → TextsStored n texts ws sh p p′ (atNode ws (i + 1) texts) →
@@ -181,7 +180,7 @@ module _ {ws sh tx : List ℕ} {i n : ℕ} {texts : List Tree} (a : NodeShared w
         sides-by (node-tree e)
         record {
           flags = y .flags;
-          rows = y .rows;
+          rows = y .rows ∙ x .rows;
           room = omega (arith, x .room, y .room);
           added = added-then (x .added) (y .added);
           puts = λ T st h.
@@ -216,10 +215,9 @@ module _ {ws sh tx : List ℕ} {t n : ℕ} {texts : List Tree} (a : TextShared w
       }
 
   module _ (p : Stage) where
-    pub text-old : getD (p .flags) t 0 ≡ 1 → length (p .flags) ≡ nodeLimit → length (p .rows) ≡ rowsLength →
-        TextsStored n texts ws sh p p (atText ws tx t texts)
-    text-old e l m =
-        rewrote-none l m
+    pub text-old : getD (p .flags) t 0 ≡ 1 → length (p .flags) ≡ nodeLimit → TextsStored n texts ws sh p p (atText ws tx t texts)
+    text-old e l =
+        rewrote-none l
         (λ T st h. let q : holds st t ≡ true = h t text-below ∙ ap (λ (x : ℕ). eqb x 1) e in rw q (refl, refl))
 
     module _ (new : getD (p .flags) t 0 ≡ 1 → ⊥) (l : length (p .flags) ≡ nodeLimit) where
@@ -228,37 +226,37 @@ module _ {ws sh tx : List ℕ} {t n : ℕ} {texts : List Tree} (a : TextShared w
       flag-pledges = omega (arith, unset-set (p .flags) t (length texts) (a .below) (omega (arith, text-below)) new)
 
       module _ (p′ : Stage) (x : TextsStored n texts ws sh (flag p t) p′ (atSides ws (getD tx t 0) texts)) where
-        pub text-row-below : pledged p (length texts) ≤ rowLimit → p′ .count < rowLimit
-        text-row-below h = omega (arith, flag-pledges, x .room, rows-spend (p′ .rows) 0 (p′ .count))
+        pub text-row-fits : RoomFor (p .rows) (pledged p (length texts)) → RoomFor (p′ .rows) (p′ .count + 1)
+        text-row-fits h = omega (arith, h, flag-pledges, x .rows, x .room, rows-spend (p′ .rows) 0 (p′ .count))
 
         -- inner trees before outer
-        text-put : p′ .count < rowLimit → TextsStored n texts ws sh p (put p′ (Kept t (getD tx t 0))) (atText ws tx t texts)
+        text-put : RoomFor (p′ .rows) (p′ .count + 1) → TextsStored n texts ws sh p (put p′ (Kept t (getD tx t 0))) (atText ws tx t texts)
         text-put k =
             let root = getD tx t 0 in
             let r = Kept t root in
             record {
               flags = x .flags;
               rows = put-length (p′ .rows) (p′ .count) r ∙ x .rows;
-              room = omega (arith, x .room, flag-pledges, put-spends (p′ .rows) (p′ .count) r (x .rows) k);
-              added = added-text p p′ t root (omega (arith, text-below)) new (a .mark) (x .added) text-row (x .rows) k;
+              room = omega (arith, x .room, flag-pledges, put-spends (p′ .rows) (p′ .count) r k);
+              added = added-text p p′ t root (omega (arith, text-below)) new (a .mark) (x .added) text-row k;
               puts = λ T st h.
                   let q : holds st t ≡ false = h t text-below ∙ ne-eqb (getD (p .flags) t 0) 1 new in
                   let y = inside texts T (t ∷ st) (tree ws root) in
                   rw q
-                  (row-put p′ r (x .rows) k refl
+                  (row-put p′ r k refl
                   (ap (λ (v : Tree). y .before ++ (assign (T t) v ∷ []))
                   (inside-is-seen (a .shared) T root (text-node .below) (t ∷ st)))
                   (x .puts T (t ∷ st) (flagged-set (p .flags) st t (omega (arith, text-below)) h)));
             }
 
-        pub text-new : {rs : List ℕ} → p′ .count < rowLimit → rs ≡ put p′ (Kept t (getD tx t 0)) .rows →
+        pub text-new : {rs : List ℕ} → RoomFor (p′ .rows) (p′ .count + 1) → rs ≡ put p′ (Kept t (getD tx t 0)) .rows →
             TextsStored n texts ws sh p (stage (p′ .flags) rs (p′ .count + 1)) (atText ws tx t texts)
         text-new k e = rw e (text-put k)
 
 -- ---- a statement
 
 module _ {ws sh tx : List ℕ} {i n : ℕ} {texts : List Tree} (a : RootShared ws sh tx i n texts) (place : ℕ) {p : Stage}
-    (p′ : Stage) (h : p′ .count < rowLimit) (x : TextsStored n texts ws sh p p′ (atNode ws i texts)) where
+    (p′ : Stage) (h : RoomFor (p′ .rows) (p′ .count + 1)) (x : TextsStored n texts ws sh p p′ (atNode ws i texts)) where
   statement-by : (r : Row) → RowShared ws sh n (length texts) r → spend r ≡ 1 →
       ((y : ℕ) → RootIs r y → (y ≡ i) × (getD sh i 0 ≡ 0)) →
       ((T : ℕ → Loc) → assign (wordPlace place) (view T ws sh i) ≡ rowStatement T ws sh r) →
@@ -268,13 +266,13 @@ module _ {ws sh tx : List ℕ} {i n : ℕ} {texts : List Tree} (a : RootShared w
       record {
         flags = x .flags;
         rows = put-length (p′ .rows) (p′ .count) r ∙ x .rows;
-        room = omega (arith, x .room, one, put-spends (p′ .rows) (p′ .count) r (x .rows) h);
-        added = added-statement p p′ i r own (x .added) fit (x .rows) h;
+        room = omega (arith, x .room, one, put-spends (p′ .rows) (p′ .count) r h);
+        added = added-statement p p′ i r own (x .added) fit h;
         puts = λ T st f.
             let t = tree ws i in
             let g = rewrite-enough texts T (depth t) depthLimit t (omega arith) (node-depth (a .node)) st in
             let v = rewritten-is-view (a .node .shared) T i (a .node .below) st in
-            row-put p′ r (x .rows) h (ap (λ (y : Rewritten). y .stored) g)
+            row-put p′ r h (ap (λ (y : Rewritten). y .stored) g)
             (ap₂ (λ (y : Rewritten) (z : Statement). y .before ++ (z ∷ [])) g (ap (assign (wordPlace place)) v ∙ s T))
             (x .puts T st f);
       }

@@ -3,7 +3,7 @@ use mathlib.Core.Path.{_≡_}
 use Prim.Native.Nat.{ℕ, _+_, _<_, _≤_}
 use mathlib.Core.List.{List, [], _∷_, _++_}
 use lib.ListN.{length, getD}
-use Rattle.limits.specs.Limits.{depthLimit, nodeLimit, rowLimit, rowsLength}
+use Rattle.limits.specs.Limits.{depthLimit, nodeLimit, rowsLength}
 use Rattle.symbol.specs.declared.Loc.{Loc}
 use Rattle.symbol.specs.Place.{wordPlace}
 use Rattle.definitions.specs.Tree.{Tree, depth}
@@ -11,7 +11,7 @@ use Rattle.definitions.specs.Statement.{assign}
 use Rattle.definitions.specs.Eliminate.{holds, Rewritten, sides, stores, rewrite}
 use Rattle.node.specs.Nodes.{tree}
 use Rattle.statement.specs.declared.Row.{Row}
-use Rattle.statement.specs.Rows.{statementsOf}
+use Rattle.statement.specs.Rows.{RoomFor, statementsOf}
 use Rattle.statement.specs.Handover.{Closed, SheetShared}
 use Rattle.rewrite.specs.Stage.{Stage, rowsOf, Flagged, pledged, NoRoot, MayRoot, Tidy}
 
@@ -39,8 +39,8 @@ pub record RewriteReady (more : ℕ) (At : ℕ → List Tree → Type 0) (p : St
   pub texts : List Tree
   pub at : At nodes texts
   pub flags : length (p .flags) ≡ nodeLimit
-  pub rows : length (p .rows) ≡ rowsLength
-  pub room : more + pledged p (length texts) ≤ rowLimit
+  pub rows : length (p .rows) ≤ rowsLength
+  pub room : RoomFor (p .rows) (more + pledged p (length texts))
 
 -- ---- what a step does
 
@@ -85,7 +85,7 @@ StatementAdded ws sh n k i p p′ = (hi : ℕ) → hi ≤ i → Tidy ws sh n k h
 -- rewriting by f takes the rows pledged, and some more; Added is what it keeps of the rows
 pub record Rewrote (more : ℕ) (Added : Type 0) (texts : List Tree) (ws sh : List ℕ) (p p′ : Stage) (f : Rewriter) : Type 0 where
   pub flags : length (p′ .flags) ≡ nodeLimit
-  pub rows : length (p′ .rows) ≡ rowsLength
+  pub rows : length (p′ .rows) ≡ length (p .rows)
   pub room : pledged p′ (length texts) ≤ more + pledged p (length texts)
   pub added : Added
   pub puts : (temporary : ℕ → Loc) (st : List ℕ) → Flagged (p .flags) st → Puts temporary ws sh (rowsOf p) p′ (f temporary st)

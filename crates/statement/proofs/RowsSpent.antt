@@ -3,12 +3,10 @@ use mathlib.Core.Path.{_≡_, refl, ap, _∙_}
 use mathlib.Core.List.{List, [], _∷_, _++_}
 use Prim.Native.Nat.{ℕ, zero, suc, _+_, _-_, _*_, _<_, _≤_}
 use native.Mathlib.Omega.{arith}
-use lib.ListN.{length}
 use lib.Seq.{sets}
-use Rattle.limits.specs.Limits.{rowLimit, rowsLength}
 use Rattle.statement.specs.declared.Row.{Row}
 use Rattle.statement.specs.declared.Row.the-variants.{Given, Copied, Kept, Passed, Made}
-use Rattle.statement.specs.Rows.{rowWords, rowAt, rowsFrom}
+use Rattle.statement.specs.Rows.{RoomFor, rowWords, rowAt, rowsFrom}
 use Rattle.statement.specs.Rowing.{spend, spent}
 use Rattle.statement.proofs.RowsPut.{rows-put}
 use Rattle.statement.proofs.EveryRow.{rows-left}
@@ -30,9 +28,9 @@ unfolding spent
 spent-more [] r = omega arith
 spent-more (q ∷ rs) r = omega (arith, spent-more rs r)
 
-pub put-spends : (rs : List ℕ) (c : ℕ) (r : Row) → length rs ≡ rowsLength → c < rowLimit →
+pub put-spends : (rs : List ℕ) (c : ℕ) (r : Row) → RoomFor rs (c + 1) →
     spent (rowsFrom (sets rs (3 * c) (rowWords r)) 0 (c + 1)) ≡ spent (rowsFrom rs 0 c) + spend r
-put-spends rs c r l h = ap spent (rows-put rs c r l h) ∙ spent-more (rowsFrom rs 0 c) r
+put-spends rs c r h = ap spent (rows-put rs c r h) ∙ spent-more (rowsFrom rs 0 c) r
 
 pub spent-first : (rs : List ℕ) (count k : ℕ) → k < count →
     spent (rowsFrom rs k (count - k)) ≡ spend (rowAt rs k) + spent (rowsFrom rs (k + 1) (count - (k + 1)))

@@ -6,7 +6,7 @@ use mathlib.Core.Bool.{Bool}
 use mathlib.Core.Option.{some}
 use mathlib.Core.List.{List, []}
 use lib.ListN.{length, getD, getElem?}
-use Rattle.limits.specs.Limits.{statementLimit, nodeLimit, rowLimit, rowsLength, temporaryLimit}
+use Rattle.limits.specs.Limits.{statementLimit, nodeLimit, rowLimit, temporaryLimit}
 use Rattle.symbol.specs.declared.Loc.{Loc}
 use Rattle.definitions.specs.Tree.{Tree}
 use Rattle.definitions.specs.Trim.{trimAll}
@@ -15,8 +15,8 @@ use Rattle.node.specs.Nodes.{endAt, tree, Table}
 use Rattle.node.specs.Views.{Marked, Fresh, zeros}
 use Rattle.statement.specs.declared.Row.the-variants.{Given}
 use Rattle.statement.specs.declared.State.{State}
-use Rattle.statement.specs.Rows.{rowAt, placeAt, rootAt, rowsFrom, statementsOf}
-use Rattle.statement.specs.Rowing.{All, OnRoot, OnGiven, Unmade, NumberedBelow, spent}
+use Rattle.statement.specs.Rows.{RoomFor, rowAt, placeAt, rootAt, rowsFrom, statementsOf}
+use Rattle.statement.specs.Rowing.{All, OnRoot, OnGiven, Unmade, NumberedBelow}
 
 -- every tree that begins before node i ends there or before it
 abbrev pub Closed : (ws : List ℕ) (i : ℕ) → Type 0
@@ -26,6 +26,7 @@ Closed ws i = (z : ℕ) → z < i → endAt ws z ≤ i
 pub record SheetHeld (ws rows : List ℕ) (n count : ℕ) : Type 0 where
   pub table : Table ws n
   pub few : count ≤ statementLimit
+  pub long : RoomFor rows count
   pub given : (j : ℕ) → j < count → rowAt rows j ≡ Given (placeAt rows j) (rootAt rows j)
   pub roots : (j : ℕ) → j < count → rootAt rows j < n
   pub order : (i j : ℕ) → i < j → j < count → rootAt rows i < rootAt rows j
@@ -51,11 +52,11 @@ pub record SheetShared (ws ms tx : List ℕ) (n : ℕ) (texts : List Tree) : Typ
 abbrev pub Owned : (ws ms : List ℕ) → ℕ → Type 0
 Owned ws ms i = (z : ℕ) → z < i → i < endAt ws z → Marked ms i
 
--- the rows that sharing put out, and the temporaries that it gave out: the roots are different nodes, and rows are left for trimming
+-- the rows that sharing put out, and the temporaries that it gave out: the roots are different nodes
 pub record SheetEliminated (ws ms rows : List ℕ) (n : ℕ) (s : State) : Type 0 where
   pub table : Table ws n
   pub wide : length ms ≡ nodeLimit
-  pub room : spent (rowsFrom rows 0 (s .count)) + zeros ms n ≤ rowLimit
+  pub long : RoomFor rows (s .count)
   pub low : s .next ≤ nodeLimit
   pub small : (j : ℕ) → getD ms j 0 ≤ s .next
   pub unmade : (j : ℕ) → j < s .count → Unmade (rowAt rows j)
@@ -71,7 +72,7 @@ pub record SheetTrimmed (sharing : Bool) (scratch : ℕ) (ws ms ms′ rows rows�
       → trimAll sharing scratch temporary (s .next) [] (statementsOf temporary ws ms (rowsFrom rows 0 (s .count)))
       ≡ record { next = s′ .next; statements = statementsOf temporary ws ms′ (rowsFrom rows′ 0 (s′ .count)) }
   pub wide : length ms′ ≡ nodeLimit
-  pub long : length rows′ ≡ rowsLength
+  pub long : RoomFor rows′ (s′ .count)
   pub few : s′ .count ≤ rowLimit
   pub low : s′ .next ≤ temporaryLimit
   pub small : (j : ℕ) → getD ms′ j 0 ≤ s′ .next

@@ -13,17 +13,18 @@ use Rattle.calls.specs.declared.Trimmed.{Trimmed as Answer}
 use Rattle.trim.specs.Trimming.{Progress, progress, stateOf, TrimReady, ViewTrimmed, NodeTrimmed}
 use Rattle.trim.specs.Joining.{JoinReady, SidesJoined, stored, joined}
 use Rattle.trim.proofs.TwoSides.{sides, two-joined}
-use Rattle.trim.proofs.Storing.{store-room, two-stored}
+use Rattle.trim.proofs.Storing.{sound-now, store-room, two-stored}
 
 module _ {h : Settings} {ws ms rs hs : List ℕ} {n i r : ℕ} {p p1 : Progress} {o : Two} {a b : Answer} (ready : TrimReady h ws n (i + 1) i p)
     (e : nodeAt ws i ≡ BinaryNode o r) (x : ViewTrimmed h ws n (i + 1) p p1 a)
     (y : ViewTrimmed h ws n r p1 (progress ms rs hs (stateOf b)) b) where
-  pub join-ready : JoinReady h (i + 1) r (a .ershov) b
+  pub join-ready : JoinReady h rs (i + 1) r (a .ershov) b
   join-ready =
       record {
         order = sides ready e .order;
         within = omega (arith, sides ready e .rightWithin, ready .table .few);
         small = omega (arith, x .tree .few, ready .scratch .1);
+        long = sound-now ready e x y .long;
         room = λ full. store-room ready e x y full;
       }
 

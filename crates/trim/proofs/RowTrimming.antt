@@ -1,10 +1,10 @@
 -- Laws of trimming one row: what its root may count on, what it costs, and what is put. Assumes nothing.
 use mathlib.Core.Path.{_≡_, refl, sym, ap, _∙_}
 use mathlib.Core.List.{List}
-use Prim.Native.Nat.{ℕ, _+_, _<_, _≤_}
+use Prim.Native.Nat.{ℕ, _+_, _≤_}
 use native.Mathlib.Omega.{arith}
-use lib.ListN.{getD}
-use Rattle.limits.specs.Limits.{rowLimit}
+use lib.ListN.{length, getD}
+use Rattle.limits.specs.Limits.{rowsLength}
 use Rattle.symbol.specs.declared.Loc.{Loc}
 use Rattle.calls.specs.declared.Settings.{Settings}
 use Rattle.definitions.specs.Tree.{ershov}
@@ -14,7 +14,7 @@ use Rattle.node.proofs.Views.{view-unmarked}
 use Rattle.statement.specs.declared.Row.{Row}
 use Rattle.statement.specs.declared.Row.the-variants.{Given, Copied, Kept, Passed, Made}
 use Rattle.statement.specs.declared.State.{State}
-use Rattle.statement.specs.Rows.{statementsOf}
+use Rattle.statement.specs.Rows.{RoomFor, statementsOf}
 use Rattle.calls.specs.declared.Trimmed.{Trimmed as Answer}
 use Rattle.trim.specs.Trimming.{Progress, progress, stateOf, readOf, TrimReady, TreeTrimmed, ViewTrimmed, NodeTrimmed}
 use Rattle.trim.specs.Sheet.{closed, RowPut, RowReady, RowTrimmed}
@@ -36,8 +36,11 @@ module _ {h : Settings} {ws : List ℕ} {n : ℕ} {p : Progress} {row : Row} (re
       given-cost : a .count + zeros ms n + 1 ≤ p .state .count + zeros (p .marks) n + 1
       given-cost = x .tree .so .counted
 
-      pub given-room : {s : State} → s ≡ stateOf a → s .count < rowLimit
-      given-room e = let c : a .count < rowLimit = omega (arith, given-cost, rw told at (ready .room)) in rw e c
+      pub given-room : {s : State} → s ≡ stateOf a → RoomFor rs (s .count + 1) × (length rs ≤ rowsLength)
+      given-room e =
+          let long = x .tree .so .long in
+          let room : RoomFor rs (a .count + 1) = omega (arith, given-cost, rw told at (ready .room)) in
+          (rw e room, omega (arith, ready .long))
 
       named : (temporary : ℕ → Loc) → view temporary ws ms i ≡ masked temporary (a .temp) (seen temporary ws ms i)
       named temporary = ap (λ (m : ℕ). masked temporary m (seen temporary ws ms i)) (sym (x .named))
@@ -83,8 +86,11 @@ module _ {h : Settings} {ws : List ℕ} {n : ℕ} {p : Progress} {row : Row} (re
       kept-cost : a .count + zeros ms n + 1 ≤ p .state .count + zeros (p .marks) n + 2
       kept-cost = omega (arith, x .so .counted)
 
-      pub kept-room : {s : State} → s ≡ stateOf a → s .count < rowLimit
-      kept-room e = let c : a .count < rowLimit = omega (arith, kept-cost, rw told at (ready .room)) in rw e c
+      pub kept-room : {s : State} → s ≡ stateOf a → RoomFor rs (s .count + 1) × (length rs ≤ rowsLength)
+      kept-room e =
+          let long = x .so .long in
+          let room : RoomFor rs (a .count + 1) = omega (arith, kept-cost, rw told at (ready .room)) in
+          (rw e room, omega (arith, ready .long))
 
       pub kept-trimmed : {rs′ : List ℕ} {s s′ : State} → s ≡ stateOf a →
           RowPut rs rs′ s s′ (closed (Kept m i) (a .temp)) → RowTrimmed h ws n p (progress ms rs′ hs s′) row
@@ -105,8 +111,8 @@ module _ {h : Settings} {ws : List ℕ} {n : ℕ} {p : Progress} {row : Row} (re
 
   -- ---- a row with nothing to trim
 
-  pub bare-room : p .state .count < rowLimit
-  bare-room = omega (arith, ready .room, row-spends row)
+  pub bare-room : RoomFor (p .words) (p .state .count + 1) × (length (p .words) ≤ rowsLength)
+  bare-room = (omega (arith, ready .room, row-spends row), ready .long)
 
   module _ {rs′ : List ℕ} {s′ : State} (put : RowPut (p .words) rs′ (p .state) s′ (closed row 0)) where
     copied : RowPut (p .words) rs′ (p .state) s′ row

@@ -17,7 +17,7 @@ use Rattle.node.proofs.Marks.{moves-marked}
 use Rattle.statement.specs.declared.Row.{Row}
 use Rattle.statement.specs.declared.Row.the-variants.{Given, Copied, Kept, Passed, Made}
 use Rattle.statement.specs.declared.State.{State}
-use Rattle.statement.specs.Rows.{rowAt, rowsFrom, rowStatement, statementsOf}
+use Rattle.statement.specs.Rows.{RoomFor, rowAt, rowsFrom, rowStatement, statementsOf}
 use Rattle.statement.specs.Rowing.{All, OnRoot, OnGiven, Unmade, NumberedBelow, spend, spent}
 use Rattle.statement.specs.Handover.{Owned, Unmarked, SheetEliminated, SheetTrimmed}
 use Rattle.statement.proofs.RowsPut.{statements-append}
@@ -26,8 +26,8 @@ use Rattle.trim.specs.Trimming.{InScratch, Progress, progress, rowsOf, r
 use Rattle.trim.specs.Sheet.{closed, OnPart, RowReady, RootTrimmed, RowCopied, RowTrimmed}
 use Rattle.statement.proofs.EveryRow.{all-none, all-one, all-append, root-map, root-both, given-both, below-up, statements-first}
 use Rattle.trim.proofs.StillRows.{still-statements}
-use Rattle.statement.proofs.RowsSpent.{row-spends, rows-spend, spent-first}
-use Rattle.trim.proofs.Gathering.{sound-since, sound-put, withRow, table-put}
+use Rattle.statement.proofs.RowsSpent.{row-spends, spent-first}
+use Rattle.trim.proofs.Gathering.{sound-since, sound-put, withRow, long-put, table-put}
 use Rattle.trim.proofs.Closing.{TreeRow, given-row, kept-row, VariableRow, copied-row, passed-row}
 use Rattle.trim.proofs.Untouched.{Untouched, untouched-seen, untouched-still, untouched-since, root-untouched}
 use Rattle.trim.proofs.Untouched.{rows-untouched, blank-stays, Begins, begins-with, begins-after}
@@ -42,7 +42,7 @@ pub record Ahead (ws ms₀ : List ℕ) (n : ℕ) (p : Progress) (i : ℕ) : Type
 -- k of the rows er are trimmed
 pub record TrimmedSoFar (h : Settings) (ws ms₀ er : List ℕ) (n : ℕ) (s₀ : State) (p : Progress) (k : ℕ) : Type 0 where
   pub sound : Sound h ws n p
-  pub room : p .state .count + zeros (p .marks) n + spent (rowsFrom er k (s₀ .count - k)) ≤ rowLimit
+  pub room : RoomFor (p .words) (p .state .count + zeros (p .marks) n + spent (rowsFrom er k (s₀ .count - k)))
   pub onward : s₀ .next ≤ p .state .next
   pub ahead : (j : ℕ) → k ≤ j → j < s₀ .count → OnRoot (Ahead ws ms₀ n p) (rowAt er j)
   pub blank : (j : ℕ) → k ≤ j → j < s₀ .count → OnGiven (λ i. getD (p .marks) i 0 ≡ 0) (rowAt er j)
@@ -51,14 +51,12 @@ pub record TrimmedSoFar (h : Settings) (ws ms₀ er : List ℕ) (n : ℕ) (s₀ 
       ≡ trimAll (h .sharing) (h .scratch) temporary (p .state .next) (readOf temporary ws p)
       (statementsOf temporary ws ms₀ (rowsFrom er k (s₀ .count - k)))
 
-pub few-rows : {ws ms₀ er : List ℕ} {n : ℕ} {s₀ : State} → SheetEliminated ws ms₀ er n s₀ → s₀ .count ≤ rowLimit
-few-rows {er} {s₀} d = omega (arith, d .room, rows-spend er 0 (s₀ .count))
-
 module _ {h : Settings} {ws ms₀ er : List ℕ} {n : ℕ} {s₀ : State} (d : SheetEliminated ws ms₀ er n s₀) where
-  pub trimmed-first : (rs : List ℕ) {hs : List ℕ} → length rs ≡ rowsLength → Unmarked hs →
+  pub trimmed-first : (rs : List ℕ) {hs : List ℕ} → RoomFor rs (spent (rowsFrom er 0 (s₀ .count)) + zeros ms₀ n) →
+      length rs ≤ rowsLength → Unmarked hs →
       TrimmedSoFar h ws ms₀ er n s₀ (progress ms₀ rs hs (record { next = s₀ .next; count = 0 })) 0
   unfolding rowsFrom statementsOf
-  trimmed-first rs {hs} l blank =
+  trimmed-first rs {hs} room l blank =
       let z : s₀ .count - 0 ≡ s₀ .count = omega arith in
       record {
         sound =
@@ -72,7 +70,7 @@ module _ {h : Settings} {ws ms₀ er : List ℕ} {n : ℕ} {s₀ : State} (d : S
               named = all-none _;
               findable = λ on. keyed-none ws ms₀ rs (blank .wide) (blank .blank);
             };
-        room = rw z (omega (arith, d .room));
+        room = rw z (omega arith);
         onward = omega arith;
         ahead = λ j a b.
             root-both _ _ _ (λ i x y. record { within = x; owned = y; same = λ temporary. refl; safe = all-none _ }) (rowAt er j)
@@ -86,14 +84,14 @@ module _ {h : Settings} {ws ms₀ er : List ℕ} {n : ℕ} {s₀ : State} (d : S
     unfolding rowsFrom statementsOf trimAll
     trimmed-last l =
         let z : s₀ .count - k ≡ 0 = omega arith in
-        let few : p .state .count ≤ rowLimit = omega (arith, g .room) in
+        let few : p .state .count ≤ rowLimit = omega (arith, g .room, g .sound .long) in
         record {
           trimmed = λ temporary f.
               g .trimmed temporary f
               ∙ ap (λ (c : ℕ). trimAll (h .sharing) (h .scratch) temporary (p .state .next) (readOf temporary ws p)
               (statementsOf temporary ws ms₀ (rowsFrom er k c))) z;
           wide = g .sound .wide;
-          long = g .sound .long;
+          long = omega (arith, g .room);
           few = few;
           low = omega (arith, g .sound .numbered);
           small = g .sound .small;
@@ -105,13 +103,13 @@ module _ {h : Settings} {ws ms₀ er : List ℕ} {n : ℕ} {s₀ : State} (d : S
       abbrev later : List Row
       later = rowsFrom er (k + 1) (s₀ .count - (k + 1))
 
-      room-now : p .state .count + zeros (p .marks) n + spend row + spent later ≤ rowLimit
+      room-now : RoomFor (p .words) (p .state .count + zeros (p .marks) n + spend row + spent later)
       room-now = rw u (omega (arith, g .room, spent-first er (s₀ .count) k l))
 
       -- ---- what row k may count on
 
       part-ready : InScratch h → (lo i : ℕ) → Begins (p .marks) lo i → Ahead ws ms₀ n p i →
-          p .state .count + zeros (p .marks) n < rowLimit → TrimReady h ws n lo i p
+          RoomFor (p .words) (p .state .count + zeros (p .marks) n + 1) → TrimReady h ws n lo i p
       part-ready scratch lo i begins a room =
           record {
             table = d .table;
@@ -123,7 +121,7 @@ module _ {h : Settings} {ws ms₀ er : List ℕ} {n : ℕ} {s₀ : State} (d : S
           }
 
       parts-ready : InScratch h → (r : Row) → OnRoot (Ahead ws ms₀ n p) r → OnGiven (λ i. getD (p .marks) i 0 ≡ 0) r →
-          p .state .count + zeros (p .marks) n + spend r ≤ rowLimit → OnPart (λ lo i. TrimReady h ws n lo i p) r
+          RoomFor (p .words) (p .state .count + zeros (p .marks) n + spend r) → OnPart (λ lo i. TrimReady h ws n lo i p) r
       parts-ready scratch (Given q i) a z room = part-ready scratch i i (begins-with z) a (omega arith)
       parts-ready scratch (Copied q j) a z room = tt
       parts-ready scratch (Kept m i) a z room = part-ready scratch (i + 1) i (begins-after (p .marks) i) a (omega arith)
@@ -132,10 +130,10 @@ module _ {h : Settings} {ws ms₀ er : List ℕ} {n : ℕ} {s₀ : State} (d : S
 
       pub row-ready : InScratch h → RowReady h ws n p row
       row-ready scratch =
-          let room : p .state .count + zeros (p .marks) n + spend row ≤ rowLimit = omega (arith, room-now) in
+          let room : RoomFor (p .words) (p .state .count + zeros (p .marks) n + spend row) = omega (arith, room-now) in
           let ahead : OnRoot (Ahead ws ms₀ n p) row = rw u (g .ahead k (omega arith) l) in
           let blank : OnGiven (λ i. getD (p .marks) i 0 ≡ 0) row = rw u (g .blank k (omega arith) l) in
-          record { room = room; part = parts-ready scratch row ahead blank room; blank = blank }
+          record { long = g .sound .long; room = room; part = parts-ready scratch row ahead blank room; blank = blank }
 
       first-row : (temporary : ℕ → Loc) → statementsOf temporary ws ms₀ (rowsFrom er k (s₀ .count - k))
           ≡ rowStatement temporary ws ms₀ row ∷ statementsOf temporary ws ms₀ later
@@ -166,16 +164,16 @@ module _ {h : Settings} {ws ms₀ er : List ℕ} {n : ℕ} {s₀ : State} (d : S
         sound-middle : Sound h ws n m
         sound-middle = sound-since (x .tree .so) (g .sound)
 
-        few-middle : m .state .count < rowLimit
-        few-middle = omega (arith, x .cost, room-now)
+        room-middle : RoomFor (m .words) (m .state .count + 1)
+        room-middle = omega (arith, x .cost, x .tree .so .long, room-now)
 
         table′ : rowsOf p′ ≡ rowsOf m ++ (put ∷ [])
-        table′ = table-put rs′ m put (sound-middle .long) few-middle (x .put .put)
+        table′ = table-put rs′ m put room-middle (x .put .put)
 
         sound′ : Sound h ws n p′
         sound′ =
             let up : s₀ .next ≤ m .state .next = omega (arith, g .onward, x .tree .so .onward) in
-            sound-put rs′ m put sound-middle few-middle (f .unmade (x .temp)) (f .root (x .temp) _ (here .within))
+            sound-put rs′ m put sound-middle room-middle (f .unmade (x .temp)) (f .root (x .temp) _ (here .within))
             (f .low (x .temp) _ (x .mark) (below-up _ _ up row low)) (x .put .put)
 
         -- a root to come
@@ -248,7 +246,7 @@ module _ {h : Settings} {ws ms₀ er : List ℕ} {n : ℕ} {s₀ : State} (d : S
             rw (x .marks, x .index, x .put .state)
             record {
               sound = sound′;
-              room = omega (arith, x .cost, room-now);
+              room = omega (arith, x .cost, x .tree .so .long, long-put rs′ m put (x .put .put), room-now);
               onward = omega (arith, g .onward, x .tree .so .onward);
               ahead = λ j a b. root-map _ _ ahead′ (rowAt er j) (to-come j (omega arith) b);
               blank = λ j a b.
@@ -261,11 +259,11 @@ module _ {h : Settings} {ws ms₀ er : List ℕ} {n : ℕ} {s₀ : State} (d : S
 
       module _ {ms′ rs′ hs′ : List ℕ} {s′ : State} (f : VariableRow row) (low : NumberedBelow (s₀ .next) row)
           (x : RowCopied p (progress ms′ rs′ hs′ s′) row) where
-        few-copied : p .state .count < rowLimit
-        few-copied = omega (arith, room-now, row-spends row)
+        room-copied : RoomFor (p .words) (p .state .count + 1)
+        room-copied = omega (arith, room-now, row-spends row)
 
         table-copied : rowsFrom rs′ 0 (p .state .count + 1) ≡ rowsOf p ++ (row ∷ [])
-        table-copied = table-put rs′ p row (g .sound .long) few-copied (x .put .put)
+        table-copied = table-put rs′ p row room-copied (x .put .put)
 
         trimmed-copied : (temporary : ℕ → Loc) → Fresh temporary ws n →
             trimAll (h .sharing) (h .scratch) temporary (s₀ .next) [] (statementsOf temporary ws ms₀ (rowsFrom er 0 (s₀ .count)))
@@ -289,8 +287,8 @@ module _ {h : Settings} {ws ms₀ er : List ℕ} {n : ℕ} {s₀ : State} (d : S
         row-copied =
             rw (x .marks, x .index, x .put .state)
             record {
-              sound = sound-put rs′ p row (g .sound) few-copied (f .unmade) (f .root _) (below-up _ _ (g .onward) row low) (x .put .put);
-              room = omega (arith, room-now, row-spends row);
+              sound = sound-put rs′ p row (g .sound) room-copied (f .unmade) (f .root _) (below-up _ _ (g .onward) row low) (x .put .put);
+              room = omega (arith, room-now, long-put rs′ p row (x .put .put), row-spends row);
               onward = g .onward;
               ahead = λ j a b.
                   root-map _ _

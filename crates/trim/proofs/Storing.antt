@@ -8,7 +8,7 @@ use lib.ListN.{length, getD, set, length-set}
 use lib.Seq.{sets, getD-set-same, getD-set-other}
 use lib.Dec.{eqb}
 use borrow.Author.Tests.{ne-eqb, eqb-true}
-use Rattle.limits.specs.Limits.{depthLimit, rowLimit, rowsLength, temporaryLimit}
+use Rattle.limits.specs.Limits.{depthLimit, temporaryLimit}
 use Rattle.symbol.specs.declared.Loc.{Loc}
 use Rattle.symbol.specs.declared.Loc.the-variants.{Stack}
 use Rattle.calls.specs.declared.Settings.{Settings}
@@ -26,7 +26,7 @@ use Rattle.node.proofs.Marks.{moves-marked, moves-split}
 use Rattle.statement.specs.declared.Row.{Row}
 use Rattle.statement.specs.declared.Row.the-variants.{Kept}
 use Rattle.statement.specs.declared.State.{State}
-use Rattle.statement.specs.Rows.{rowWords, rowsFrom, statementsOf}
+use Rattle.statement.specs.Rows.{RoomFor, rowWords, rowsFrom, statementsOf}
 use Rattle.statement.specs.Rowing.{All, OnRoot}
 use Rattle.statement.proofs.RowsPut.{put-length, statements-append}
 use Rattle.calls.specs.declared.Trimmed.{Trimmed as Answer}
@@ -38,7 +38,7 @@ use Rattle.calls.proofs.Keying.{keyed-still, keyed-put}
 use Rattle.trim.specs.Rowing.{Still}
 use Rattle.trim.proofs.StillRows.{still-statements, still-part, still-since}
 use Rattle.trim.proofs.NodesUnmarked.{bare-marked, zeros-set}
-use Rattle.trim.proofs.Gathering.{TwoSided, table-put, sound-since, gathers-two}
+use Rattle.trim.proofs.Gathering.{TwoSided, long-put, table-put, sound-since, gathers-two}
 use Rattle.trim.proofs.Trimming.{result}
 use Rattle.trim.proofs.TwoSides.{sides, seen-two, gathered-two, both-read, number-left, split-as}
 
@@ -91,33 +91,32 @@ module _ (ms : List ℕ) (l r next : ℕ) (order : l < r) (room : r < length ms)
       )
 
 -- the two rows, put one after the other
-table-pair : (p : Progress) (l r : ℕ) (middle words : List ℕ) → length (p .words) ≡ rowsLength →
-    p .state .count + 2 ≤ rowLimit →
+table-pair : (p : Progress) (l r : ℕ) (middle words : List ℕ) → RoomFor (p .words) (p .state .count + 2) →
     middle ≡ sets (p .words) (3 * p .state .count) (rowWords (Kept (p .state .next) l)) →
     words ≡ sets middle (3 * (p .state .count + 1)) (rowWords (Kept (p .state .next + 1) r)) →
     rowsFrom words 0 (p .state .count + 2) ≡ rowsOf p ++ pairOf l r (p .state .next)
-table-pair p l r middle words long c e3 e4 =
+table-pair p l r middle words room e3 e4 =
     let count = p .state .count in
     let next = p .state .next in
     let q : count + 2 ≡ count + 1 + 1 = omega arith in
     let m = progress (p .marks) middle (p .index) (record { next = next; count = count + 1 }) in
     rw q
-    (table-put words m (Kept (next + 1) r) (ap length e3 ∙ put-length (p .words) count (Kept next l) ∙ long) (omega arith) e4
-    ∙ ap (λ (x : List Row). x ++ (Kept (next + 1) r ∷ [])) (table-put middle p (Kept next l) long (omega arith) e3)
+    (table-put words m (Kept (next + 1) r) (omega (arith, long-put middle p (Kept next l) e3)) e4
+    ∙ ap (λ (x : List Row). x ++ (Kept (next + 1) r ∷ [])) (table-put middle p (Kept next l) (omega arith) e3)
     ∙ append-assoc (rowsOf p) (Kept next l ∷ []) (Kept (next + 1) r ∷ []))
 
 -- they make no calls
-keyed-pair : (p : Progress) (l r : ℕ) (middle words : List ℕ) → length (p .words) ≡ rowsLength → p .state .count + 2 ≤ rowLimit →
+keyed-pair : (p : Progress) (l r : ℕ) (middle words : List ℕ) → RoomFor (p .words) (p .state .count + 2) →
     middle ≡ sets (p .words) (3 * p .state .count) (rowWords (Kept (p .state .next) l)) →
     words ≡ sets middle (3 * (p .state .count + 1)) (rowWords (Kept (p .state .next + 1) r)) →
     {ws ms : List ℕ} → Keyed ws ms (p .words) (p .index) (p .state .count) → Keyed ws ms words (p .index) (p .state .count + 2)
-keyed-pair p l r middle words long c e3 e4 x =
+keyed-pair p l r middle words room e3 e4 x =
     let count = p .state .count in
     let next = p .state .next in
     let q : count + 2 ≡ count + 1 + 1 = omega arith in
-    let first = keyed-put (p .words) count (Kept next l) tt long (omega arith) x in
-    let kept = ap length e3 ∙ put-length (p .words) count (Kept next l) ∙ long in
-    rw (q, e4) (keyed-put middle (count + 1) (Kept (next + 1) r) tt kept (omega arith) (rw (← e3) at first))
+    let first = keyed-put (p .words) count (Kept next l) tt (omega arith) x in
+    let long = long-put middle p (Kept next l) e3 in
+    rw (q, e4) (keyed-put middle (count + 1) (Kept (next + 1) r) tt (omega arith) (rw (← e3) at first))
 
 module _ {h : Settings} {ws : List ℕ} {n i r : ℕ} {p p1 p2 : Progress} {rows1 rows2 : List Row} (both : TwoSided ws n i r)
     (g : Gathered h ws n (i + 1) (i + 1) p p1 0 rows1) (k : Gathered h ws n r r p1 p2 0 rows2)
@@ -148,14 +147,14 @@ module _ {h : Settings} {ws : List ℕ} {n i r : ℕ} {p p1 p2 : Progress} {rows
       pair-all _ (i + 1) r _ (λ u v. n1 (omega arith))
       (λ u v. omega (arith, n2, nested ws depthLimit (i + 1) y (both .left) a (omega (arith, n2))))
 
-  gathers-stored : (middle words : List ℕ) → p2 .state .count + 2 ≤ rowLimit →
+  gathers-stored : (middle words : List ℕ) → RoomFor (p2 .words) (p2 .state .count + 2) →
       middle ≡ sets (p2 .words) (3 * p2 .state .count) (rowWords (Kept (p2 .state .next) (i + 1))) →
       words ≡ sets middle (3 * (p2 .state .count + 1)) (rowWords (Kept (p2 .state .next + 1) r)) →
       ((temporary : ℕ → Loc) → Still temporary ws (p2 .marks) (storedMarks (p2 .marks) (i + 1) r (p2 .state .next)) (rowsOf p2)) →
       Gathered h ws n (i + 1) i p
       (progress (storedMarks (p2 .marks) (i + 1) r (p2 .state .next)) words (p2 .index) (later (p2 .state))) 0
       ((rows1 ++ rows2) ++ pair)
-  gathers-stored middle words c e3 e4 still =
+  gathers-stored middle words room e3 e4 still =
       let s = gathers-two both g k in
       let next = p2 .state .next in
       let rows = rows1 ++ rows2 in
@@ -173,13 +172,13 @@ module _ {h : Settings} {ws : List ℕ} {n i r : ℕ} {p p1 p2 : Progress} {rows
         onward = omega (arith, s .onward);
         wide = length-set (set (p2 .marks) (i + 1) (next + 1)) r (next + 2) ∙ length-set (p2 .marks) (i + 1) (next + 1) ∙ s .wide;
         long =
-            ap length e4 ∙ put-length middle (p2 .state .count + 1) (Kept (next + 1) r) ∙ ap length e3
-            ∙ put-length (p2 .words) (p2 .state .count) (Kept next (i + 1)) ∙ s .long;
+            ap length e4 ∙ put-length middle (p2 .state .count + 1) (Kept (next + 1) r)
+            ∙ long-put middle p2 (Kept next (i + 1)) e3 ∙ s .long;
         chains = s .chains;
         small = small-stored (p2 .marks) (i + 1) r next order here (k .small);
         mark = omega arith;
         table =
-            table-pair p2 (i + 1) r middle words (sound .long) c e3 e4 ∙ ap (λ (x : List Row). x ++ pair) (s .table)
+            table-pair p2 (i + 1) r middle words room e3 e4 ∙ ap (λ (x : List Row). x ++ pair) (s .table)
             ∙ append-assoc (rowsOf p) rows pair;
         inside =
             all-append _ rows pair (s .inside)
@@ -188,7 +187,7 @@ module _ {h : Settings} {ws : List ℕ} {n i r : ℕ} {p p1 p2 : Progress} {rows
             all-append _ rows pair (named-up next (next + 2) (omega arith) rows (s .named))
             (pair-all _ (i + 1) r next (omega arith) (omega arith));
         free = λ y u v m. all-append _ rows pair (s .free y u v m) (free-pair y u m);
-        findable = λ on. keyed-pair p2 (i + 1) r middle words (sound .long) c e3 e4 (keyed-still _ still (sound .findable on));
+        findable = λ on. keyed-pair p2 (i + 1) r middle words room e3 e4 (keyed-still _ still (sound .findable on));
       }
 
 -- ---- the node that is left
@@ -206,7 +205,7 @@ temporary-view temporary m k t e =
 
 module _ {h : Settings} {ws : List ℕ} {n i r : ℕ} {p p1 p2 : Progress} {o : Two} {a b : Answer} (ready : TrimReady h ws n (i + 1) i p)
     (e : nodeAt ws i ≡ BinaryNode o r) (x : ViewTrimmed h ws n (i + 1) p p1 a) (y : ViewTrimmed h ws n r p1 p2 b) where
-  sound-now : Sound h ws n p2
+  pub sound-now : Sound h ws n p2
   sound-now = sound-since (gathered-two ready e x y) (ready .sound)
 
   -- both sides need every register
@@ -222,12 +221,12 @@ module _ {h : Settings} {ws : List ℕ} {n i r : ℕ} {p p1 p2 : Progress} {o : 
         let w = eqb-true (b .ershov) (h .scratch) (and-both (eqb (a .ershov) (h .scratch)) (eqb (b .ershov) (h .scratch)) full .1) in
         unmarked-wide _ (seen (λ k. Stack k) ws (p2 .marks) r) (omega (arith, y .tree .number (λ k. Stack k), ready .scratch .0))
 
-    pub store-room : (p2 .state .count + 2 ≤ rowLimit) × (p2 .state .next + 2 ≤ temporaryLimit)
+    pub store-room : RoomFor (p2 .words) (p2 .state .count + 2) × (p2 .state .next + 2 ≤ temporaryLimit)
     store-room =
         let g = gathered-two ready e x y in
         let w = stored-room (sides ready e) (x .tree .so) (y .tree .so) left-unmarked right-unmarked sound-now in
-        let c : p2 .state .count + 2 ≤ rowLimit = omega (arith, g .counted, ready .counted) in
-        (c, omega (arith, sound-now .numbered))
+        let room : RoomFor (p2 .words) (p2 .state .count + 2) = omega (arith, g .counted, g .long, ready .counted) in
+        (room, omega (arith, sound-now .numbered, sound-now .long))
 
     abbrev both : List Row
     both = x .tree .rows ++ y .tree .rows

@@ -3,15 +3,15 @@ use mathlib.Core.Path.{_≡_}
 use Prim.Native.Nat.{ℕ, _+_, _*_, _<_, _≤_}
 use mathlib.Core.Bool.{Bool, true, false, _&&_}
 use mathlib.Core.List.{List}
-use lib.ListN.{set}
+use lib.ListN.{length, set}
 use lib.Seq.{sets}
 use lib.Dec.{eqb}
-use Rattle.limits.specs.Limits.{nodeLimit, rowLimit, temporaryLimit}
+use Rattle.limits.specs.Limits.{nodeLimit, rowsLength, temporaryLimit}
 use Rattle.calls.specs.declared.Settings.{Settings}
 use Rattle.definitions.specs.Tree.{join}
 use Rattle.statement.specs.declared.Row.the-variants.{Kept}
 use Rattle.statement.specs.declared.State.{State}
-use Rattle.statement.specs.Rows.{rowWords}
+use Rattle.statement.specs.Rows.{RoomFor, rowWords}
 use Rattle.calls.specs.declared.Trimmed.{Trimmed as Answer}
 use Rattle.trim.specs.Trimming.{stateOf}
 
@@ -20,11 +20,12 @@ abbrev pub isFull : (h : Settings) (x y : ℕ) → Bool
 isFull h x y = eqb x (h .scratch) && eqb y (h .scratch)
 
 -- what joining the sides l and r may count on: room for two rows, where they are stored
-pub record JoinReady (h : Settings) (l r x : ℕ) (b : Answer) : Type 0 where
+pub record JoinReady (h : Settings) (rs : List ℕ) (l r x : ℕ) (b : Answer) : Type 0 where
   pub order : l < r
   pub within : r < nodeLimit
   pub small : x ≤ nodeLimit
-  pub room : isFull h x (b .ershov) ≡ true → (b .count + 2 ≤ rowLimit) × (b .next + 2 ≤ temporaryLimit)
+  pub long : length rs ≤ rowsLength
+  pub room : isFull h x (b .ershov) ≡ true → RoomFor rs (b .count + 2) × (b .next + 2 ≤ temporaryLimit)
 
 -- the trees of nodes l and r stored in two temporaries
 pub record SidesStored (l r : ℕ) (s : State) (ms rs ms′ rs′ : List ℕ) (z : Answer) : Type 0 where

@@ -1,37 +1,35 @@
--- `builder::trim_sheet` meets its contract: the rows of both passes of sharing, or the sheet's own, are trimmed.
+-- `builder::trim_sheet` meets its contract: with sharing off the sheet's own rows are trimmed.
 use borrow.Author.Needs.{needs}
 use Rattle.block.proofs.Plain.{plain-rows}
-use Rattle.builder.proofs.FirstStep.{sheet-trims}
+use Rattle.builder.proofs.FirstStep.{room-left, sheet-trims}
 use Rattle.builder.proofs.trim_sheet.Statement.{statement}
 use Rattle.builder.proofs.trim_sheet.Tie as tie
 
--- ---- sharing is on
-
-shared-asked : tie.Need-trim-rows-requires
+shared-asked : tie.Need-trim-shared-requires
 shared-asked c κs =
-    let shared = c .before .before .before .before in
-    let on = shared .before .before .before in
-    let start = on .before .before in
-    (shared .eliminate .ensures .handed, start .pre .1, start .pre .3, start .pre .4)
+    let on = c .before .before .before in
+    (on .before .before .before .before .pre, on .if1 .taken)
 
-shared-returns : tie.Need-returns
-shared-returns c =
-    let shared = c .before .before .before .before .before in
-    let on = shared .before .before .before in
-    sheet-trims _ _ _ _ _ _ _ (rw (on .if1 .taken) (shared .eliminate .ensures)) _ _ _ _ (c .trim-rows .ensures)
-
--- ---- sharing is off
-
-plain-asked : tie.Need-trim-rows-requires-2
+plain-asked : tie.Need-trim-rows-requires
 plain-asked c κs =
-    let start = c .before .before .before .before .before in
-    (plain-rows (start .pre .0) (start .pre .2) .handed, start .pre .1, start .pre .3, start .pre .4)
+    let settled = c .before .before .before in
+    let start = settled .before .before .before .before .before in
+    let ready = start .pre in
+    let plain = plain-rows (ready .held) (ready .marks) in
+    let room = room-left (start .args .trimmed .now) plain (ready .room) in
+    rw (settled .settings-of .ensures) (plain .handed, ready .scratch, ready .chains, room, ready .short)
 
 plain-returns : tie.Need-returns-2
 plain-returns c =
-    let off = c .before .before .before .before in
-    let start = off .before .before in
-    sheet-trims _ _ _ _ _ _ _ (rw (off .if1 .left) (plain-rows (start .pre .0) (start .pre .2))) _ _ _ _ (c .trim-rows2 .ensures)
+    let trimmed = c .before .before in
+    let settled = trimmed .before .before .before .before in
+    let off = settled .before in
+    let ready = off .before .before .before .before .pre in
+    sheet-trims _ _ _ _ _ _ _ (rw (off .if1 .left) (plain-rows (ready .held) (ready .marks))) _ _ _ _
+    (rw (settled .settings-of .ensures) at (trimmed .trim-rows .ensures))
 
 pub trim-sheet-spec : {M : Type 1} → statement M
-trim-sheet-spec = tie.close (tie.spec (λ c κs. search needs) shared-asked shared-returns plain-asked plain-returns)
+trim-sheet-spec =
+    tie.close
+    (tie.spec shared-asked (λ c. search needs) (λ c. c .before .before .trim-shared .ensures) (λ c κs. search needs) plain-asked
+    (λ c. search needs) plain-returns)

@@ -8,22 +8,24 @@ use Rattle.calls.proofs.break_call.Tie as tie
 shared-call-requires : tie.Need-shared-call-requires
 shared-call-requires c κs =
     let on = c .before .before in
-    let s = on .before .before in
+    let s = on .before .before .before in
     (s .pre .0, s .pre .1 (on .if1 .taken))
 
 returns : tie.Need-returns
 returns c =
-    let on = c .before .before .before in
-    rw (on .if1 .taken) (c .shared-call .ensures)
+    let shared = c .before .before in
+    let on = shared .before .before .before in
+    rw (on .if1 .taken) (shared .shared-call .ensures)
 
 new-call-requires : tie.Need-new-call-requires
-new-call-requires c κs = let s = c .before .before .before in (s .pre .0 .few, s .pre .0 .low, omega arith)
+new-call-requires c κs = let ready = c .before .before .before .before .pre .0 in (ready .room, ready .few, ready .low, omega arith)
 
 returns-2 : tie.Need-returns-2
 returns-2 c =
-    let off = c .before .before in
-    let s = off .before .before in
-    broken-off (s .pre .0) (off .if1 .left) (c .new-call .ensures)
+    let put = c .before .before in
+    let off = put .before .before in
+    let s = off .before .before .before in
+    broken-off (s .pre .0) (off .if1 .left) (put .new-call .ensures)
 
 pub break-call-spec : {M : Type 1} → statement M
-break-call-spec = tie.close (tie.spec shared-call-requires returns new-call-requires returns-2)
+break-call-spec = tie.close (tie.spec shared-call-requires (λ c. search needs) returns new-call-requires (λ c. search needs) returns-2)

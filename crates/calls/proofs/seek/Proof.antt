@@ -1,8 +1,8 @@
 -- `calls::seek` meets its contract: what is found among the rows looked at is found among all, once the chain ends.
-use Prim.Native.Nat.{_≤_}
 use borrow.Author.Needs.{needs}
 use native.Mathlib.Omega.{arith}
-use Rattle.calls.proofs.Search.{Searched, search-starts, chain-within, chain-asked, chain-linked, chain-falls, chain-next, chain-ends}
+use Rattle.calls.proofs.Search.{Searched, search-starts, chain-within, chain-asked}
+use Rattle.calls.proofs.Search.{chain-linked, chain-falls, chain-next, chain-ends}
 use Rattle.calls.proofs.seek.Statement.{statement}
 use Rattle.calls.proofs.seek.Tie as tie
 
@@ -13,11 +13,11 @@ abbrev μ-loop : tie.MeasureT-loop
 μ-loop ws ms rs i last count found₀ k₀ found k = k
 
 loop-holds : tie.Need-loop-holds Inv-loop μ-loop
-loop-holds c = let s = c .before in search-starts _ _ (s .pre .0) (s .pre .1)
+loop-holds c = let s = c .before .before in search-starts _ _ (s .pre .0) (s .pre .1)
 
 row-at-requires : tie.Need-row-at-requires Inv-loop μ-loop
 row-at-requires c κs =
-    let s = c .before .before .before in
+    let s = c .before .before .before .before in
     omega (arith, chain-within (c .before .loop .inv) (c .loop-test .taken), s .pre .2)
 
 hits-requires : tie.Need-hits-requires Inv-loop μ-loop
@@ -26,7 +26,7 @@ hits-requires c κs = let turn = c .before in chain-asked (turn .before .loop .i
 link-at-requires : tie.Need-link-at-requires Inv-loop μ-loop
 link-at-requires c κs =
     let turn = c .before .before .before in
-    let s = turn .before .before .before in
+    let s = turn .before .before .before .before in
     let searched = turn .before .loop .inv in
     (omega (arith, chain-within searched (turn .loop-test .taken), s .pre .2), chain-linked searched (turn .loop-test .taken))
 

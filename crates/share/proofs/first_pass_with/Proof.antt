@@ -27,7 +27,7 @@ module _ (turn : tie.At-loop Inv-loop μ-loop) where
   classed = numbered .before .before .before .before
 
   abbrev start : tie.Start Inv-loop μ-loop
-  start = classed .before .before .before .before .before
+  start = classed .before .before .before .before .before .before
 
   sized : length (classed .classes .last .1 .1 .0) ≡ length (start .args .cs .now)
   sized = classed .classes .kept .1 .1 .0
@@ -49,11 +49,11 @@ module _ (turn : tie.At-loop Inv-loop μ-loop) where
 loop-holds : tie.Need-loop-holds Inv-loop μ-loop
 loop-holds c =
     let classed = c .before .before .before .before .before .before in
-    let start = classed .before .before .before .before .before in
+    let start = classed .before .before .before .before .before .before in
     (omega arith, walked-none (start .args .rows .now) (start .pre .2) (start .pre .3))
 
 root-at-requires : tie.Need-root-at-requires Inv-loop μ-loop
-root-at-requires c κs = omega (arith, start (c .before) .pre .0 .few)
+root-at-requires c κs = omega (arith, start (c .before) .pre .0 .long)
 
 find-cse-requires : tie.Need-find-cse-requires Inv-loop μ-loop
 find-cse-requires c κs =
@@ -83,6 +83,6 @@ returns c =
 pub first-pass-with-spec : {M : Type 1} → statement M
 first-pass-with-spec =
     tie.close
-    (tie.spec Inv-loop μ-loop (λ c. omega (arith, c .before .before .before .pre .0 .table .few)) (λ c κs. search needs)
+    (tie.spec Inv-loop μ-loop (λ c. omega (arith, c .before .before .before .before .pre .0 .table .few)) (λ c κs. search needs)
     (λ c κs. search needs) loop-holds root-at-requires find-cse-requires (λ c. search needs) (λ c. search needs) loop-again
     settle-requires (λ c. search needs) (λ c. search needs) returns)

@@ -74,36 +74,37 @@ trim-node-claims t = (
 
 marked-returns : (t : ℕ) → trim-lts.Need-returns (trim-claims t) (trim-at t) trim.Post
 marked-returns t c =
-    let start = c .before .before .before in
+    let start = c .before .before .before .before in
     view-leaf (start .pre .1) (c .if1 .taken) refl
 
 node-asked : (t : ℕ) → trim-lts.Need-trim-node-requires (trim-claims t) (trim-at t) trim.Post
 node-asked t c κs =
     let unmarked = c .before .before .before in
-    let start = unmarked .before .before .before in
+    let start = unmarked .before .before .before .before in
     (omega (arith, start .pre .0), ready-node (unmarked .if1 .left) (start .pre .1))
 
 abbrev node-start : (t : ℕ) → trim-lts.After-trim-node (trim-claims t) (trim-at t) trim.Post →
     trim-lts.Start (trim-claims t) (trim-at t) trim.Post
-node-start t c = let unmarked = c .before .before .before .before in unmarked .before .before .before
+node-start t c = let unmarked = c .before .before .before .before in unmarked .before .before .before .before
 
 node-returns : (t : ℕ) → trim-lts.Need-returns-2 (trim-claims t) (trim-at t) trim.Post
 node-returns t c =
-    let unmarked = c .before .before .before .before in
-    view-marks _ (node-start t c .pre .1) (unmarked .if1 .left) (c .trim-node .ensures)
+    let trimmed = c .before .before in
+    let unmarked = trimmed .before .before .before .before in
+    view-marks _ (node-start t trimmed .pre .1) (unmarked .if1 .left) (trimmed .trim-node .ensures)
 
 -- ---- a leaf
 
 const-returns : (t : ℕ) → trim-node-lts.Need-returns-3 (trim-node-claims t) (trim-node-at t) trim-node.Post
 const-returns t c =
     let unpacked = c .before .before .before in
-    let start = unpacked .before .before in
+    let start = unpacked .before .before .before in
     const-leaf (start .pre .1) (unpacked .unpack .ensures) (c .leaf .ensures) (c .before .enum-told .given .1)
 
 var-returns : (t : ℕ) → trim-node-lts.Need-returns-4 (trim-node-claims t) (trim-node-at t) trim-node.Post
 var-returns t c =
     let unpacked = c .before .before .before in
-    let start = unpacked .before .before in
+    let start = unpacked .before .before .before in
     var-leaf (start .pre .1) (unpacked .unpack .ensures) (c .leaf2 .ensures) (c .before .enum-told2 .given .1)
 
 -- ---- over one side
@@ -112,7 +113,7 @@ abbrev SideDone : ℕ → Type 0
 SideDone t = trim-node-lts.After-trim (trim-node-claims t) (trim-node-at t) trim-node.Post
 
 abbrev side-start : (t : ℕ) → SideDone t → trim-node-lts.Start (trim-node-claims t) (trim-node-at t) trim-node.Post
-side-start t c = let told = c .before .before .before .before in told .before .before .before .before .before
+side-start t c = let told = c .before .before .before .before in told .before .before .before .before .before .before
 
 abbrev side-done : (t : ℕ) (c : SideDone t) →
     let args = side-start t c .args in
@@ -132,29 +133,30 @@ side-done t c =
 side-asked : (t : ℕ) → trim-node-lts.Need-trim-requires (trim-node-claims t) (trim-node-at t) trim-node.Post
 side-asked t c κs =
     let told = c .before .before .before in
-    let start = told .before .before .before .before .before in
+    let start = told .before .before .before .before .before .before in
     let node = sym (told .before .before .before .unpack .ensures) ∙ told .before .node .given .1 in
     (omega (arith, start .pre .0, start .pre .1 .within), ready-one (start .pre .1) node)
 
 call-asked : (t : ℕ) → trim-node-lts.Need-break-call-requires (trim-node-claims t) (trim-node-at t) trim-node.Post
 call-asked t c κs =
     let chosen = c .before .before .before .before in
-    let done = side-done t (chosen .before .before) in
+    let done = side-done t (chosen .before .before .before .before) in
     let function = sym (chosen .before .is-function1 .ensures) ∙ chosen .if1 .taken in
     let calling = calling-one (done .ready) (done .node) (done .side) function in
     call-ready (done .ready) calling (c .state-of .ensures) (called-one (done .ready) (done .node) function)
 
 call-returns : (t : ℕ) → trim-node-lts.Need-returns (trim-node-claims t) (trim-node-at t) trim-node.Post
 call-returns t c =
-    let chosen = c .before .before .before .before .before in
-    let done = side-done t (chosen .before .before) in
+    let called = c .before .before in
+    let chosen = called .before .before .before .before .before in
+    let done = side-done t (chosen .before .before .before .before) in
     let function = sym (chosen .before .is-function1 .ensures) ∙ chosen .if1 .taken in
     let calling = calling-one (done .ready) (done .node) (done .side) function in
-    call-trimmed (done .ready) calling (c .before .state-of .ensures) (c .break-call .ensures)
+    call-trimmed (done .ready) calling (called .before .state-of .ensures) (called .break-call .ensures)
 
 unary-returns : (t : ℕ) → trim-node-lts.Need-returns-5 (trim-node-claims t) (trim-node-at t) trim-node.Post
 unary-returns t c =
-    let done = side-done t (c .before .before) in
+    let done = side-done t (c .before .before .before .before) in
     unary-trimmed (done .ready) (done .node) (done .side) (sym (c .before .is-function1 .ensures) ∙ c .if1 .left)
 
 -- ---- over two sides
@@ -164,16 +166,18 @@ RightDone t = trim-node-lts.After-trim3 (trim-node-claims t) (trim-node-at t) tr
 
 abbrev sides-start : (t : ℕ) → RightDone t → trim-node-lts.Start (trim-node-claims t) (trim-node-at t) trim-node.Post
 sides-start t c =
-    let left = c .before .before .before .before .before in
+    let lent = c .before .before .before .before in
+    let left = lent .before .before .before in
     let told = left .before .before .before .before in
-    told .before .before .before .before .before
+    told .before .before .before .before .before .before
 
 abbrev sides-done : (t : ℕ) (c : RightDone t) →
     let args = sides-start t c .args in
     SidesTrimmed (args .g) (args .ws .now) (args .g .nodes) (args .i)
     (progress (args .ms .now) (args .rs .now) (args .heads .now) (args .s))
 sides-done t c =
-    let left = c .before .before .before .before .before in
+    let lent = c .before .before .before .before in
+    let left = lent .before .before .before in
     let told = left .before .before .before .before in
     record {
       o = _;
@@ -191,15 +195,15 @@ sides-done t c =
 left-asked : (t : ℕ) → trim-node-lts.Need-trim-requires-2 (trim-node-claims t) (trim-node-at t) trim-node.Post
 left-asked t c κs =
     let told = c .before .before .before in
-    let start = told .before .before .before .before .before in
+    let start = told .before .before .before .before .before .before in
     let node = sym (told .before .before .before .unpack .ensures) ∙ told .before .node2 .given .1 in
     (omega (arith, start .pre .0, start .pre .1 .within), ready-left (start .pre .1) node)
 
 right-asked : (t : ℕ) → trim-node-lts.Need-trim-requires-3 (trim-node-claims t) (trim-node-at t) trim-node.Post
 right-asked t c κs =
-    let left = c .before .before .before .before in
+    let left = c .before .before .before .before .before .before in
     let told = left .before .before .before .before in
-    let start = told .before .before .before .before .before in
+    let start = told .before .before .before .before .before .before in
     let node = sym (told .before .before .before .unpack .ensures) ∙ told .before .node2 .given .1 in
     let ready = start .pre .1 in
     let asked = ready-right ready node (left .trim2 .ensures) (c .state-of2 .ensures) in
@@ -208,52 +212,56 @@ right-asked t c κs =
 call-two-asked : (t : ℕ) → trim-node-lts.Need-break-call-requires-2 (trim-node-claims t) (trim-node-at t) trim-node.Post
 call-two-asked t c κs =
     let chosen = c .before .before .before .before in
-    let done = sides-done t (chosen .before .before) in
+    let done = sides-done t (chosen .before .before .before .before) in
     let function = sym (chosen .before .is-function2 .ensures) ∙ chosen .if2 .taken in
     let calling = calling-two (done .ready) (done .node) (done .left) (done .right) function in
     call-ready (done .ready) calling (c .state-of3 .ensures) (called-two (done .ready) (done .node) function)
 
 call-two-returns : (t : ℕ) → trim-node-lts.Need-returns-2 (trim-node-claims t) (trim-node-at t) trim-node.Post
 call-two-returns t c =
-    let chosen = c .before .before .before .before .before in
-    let done = sides-done t (chosen .before .before) in
+    let called = c .before .before in
+    let chosen = called .before .before .before .before .before in
+    let done = sides-done t (chosen .before .before .before .before) in
     let function = sym (chosen .before .is-function2 .ensures) ∙ chosen .if2 .taken in
     let calling = calling-two (done .ready) (done .node) (done .left) (done .right) function in
-    call-trimmed (done .ready) calling (c .before .state-of3 .ensures) (c .break-call2 .ensures)
+    call-trimmed (done .ready) calling (called .before .state-of3 .ensures) (called .break-call2 .ensures)
 
 left-fits : (t : ℕ) → trim-node-lts.Need-add-join-sides (trim-node-claims t) (trim-node-at t) trim-node.Post
 left-fits t c =
-    let start = sides-start t (c .before .before) in
+    let start = sides-start t (c .before .before .before .before) in
     omega (arith, start .pre .1 .within, start .pre .1 .table .few)
 
 join-asked : (t : ℕ) → trim-node-lts.Need-join-sides-requires (trim-node-claims t) (trim-node-at t) trim-node.Post
 join-asked t c κs =
-    let done = sides-done t (c .before .before .before .before) in
+    let chosen = c .before .before in
+    let done = sides-done t (chosen .before .before .before .before) in
     join-ready (done .ready) (done .node) (done .left) (done .right)
 
 join-returns : (t : ℕ) → trim-node-lts.Need-returns-6 (trim-node-claims t) (trim-node-at t) trim-node.Post
 join-returns t c =
-    let chosen = c .before .before .before in
-    let done = sides-done t (chosen .before .before) in
+    let joins = c .before .before in
+    let chosen = joins .before .before .before in
+    let done = sides-done t (chosen .before .before .before .before) in
     let plain = sym (chosen .before .is-function2 .ensures) ∙ chosen .if2 .left in
-    join-trimmed (done .ready) (done .node) (done .left) (done .right) plain (c .join-sides .ensures)
+    join-trimmed (done .ready) (done .node) (done .left) (done .right) plain (joins .join-sides .ensures)
 
 pub +trim+trim-node-spec : {M : Type 1} → statement M
 +trim+trim-node-spec =
     close μ-trim μ-trim-node
     (λ t. trim-lts.spec (trim-claims t) (trim-at t) trim.Post
-    (λ c. let start = c .before in omega (arith, start .pre .1 .within, start .pre .1 .table .few))
-    (λ c. let start = c .before in omega (arith, start .pre .1 .within, start .pre .1 .table .few))
+    (λ c. let start = c .before .before in omega (arith, start .pre .1 .within, start .pre .1 .table .few))
+    (λ c. let start = c .before .before in omega (arith, start .pre .1 .within, start .pre .1 .table .few))
     (marked-returns t) (node-asked t)
-    (λ c. let start = node-start t c in omega (arith, start .pre .1 .within, start .pre .1 .table .few))
-    (λ c. let start = node-start t c in omega (arith, start .pre .1 .within, start .pre .1 .table .few))
-    (node-returns t))
+    (λ c. let start = node-start t (c .before .before) in omega (arith, start .pre .1 .within, start .pre .1 .table .few))
+    (λ c. let start = node-start t (c .before .before) in omega (arith, start .pre .1 .within, start .pre .1 .table .few))
+    (λ c. search needs) (node-returns t))
     (λ t. trim-node-lts.spec (trim-node-claims t) (trim-node-at t) trim-node.Post
-    (λ c κs. let start = c .before in laid-room _ depthLimit _ (start .pre .1 .table .laid _ (start .pre .1 .within)))
+    (λ c κs. let start = c .before .before in laid-room _ depthLimit _ (start .pre .1 .table .laid _ (start .pre .1 .within)))
     (λ c. search needs) (λ c κs. search needs) (λ c. search needs) (λ c κs. search needs) (λ c. search needs)
-    (λ c. let start = c .before .before .before .before .before in omega (arith, start .pre .1 .within, start .pre .1 .table .few))
-    (side-asked t) (λ c κs. search needs) (λ c κs. search needs) (call-asked t) (call-returns t) (λ c. search needs)
-    (λ c. let start = c .before .before .before .before .before in omega (arith, start .pre .1 .within, start .pre .1 .table .few))
+    (λ c. let start = c .before .before .before .before .before .before in omega (arith, start .pre .1 .within, start .pre .1 .table .few))
+    (side-asked t) (λ c κs. search needs) (λ c κs. search needs) (call-asked t) (λ c. search needs) (call-returns t) (λ c. search needs)
+    (λ c. let start = c .before .before .before .before .before .before in omega (arith, start .pre .1 .within, start .pre .1 .table .few))
     (left-asked t) (λ c κs. search needs) (right-asked t) (λ c κs. search needs) (λ c κs. search needs)
-    (call-two-asked t) (call-two-returns t) (left-fits t)
-    (join-asked t) (const-returns t) (var-returns t) (unary-returns t) (join-returns t))
+    (call-two-asked t) (λ c. search needs) (call-two-returns t) (left-fits t)
+    (join-asked t) (const-returns t) (var-returns t) (λ c. search needs) (unary-returns t)
+    (λ c. search needs) (join-returns t))

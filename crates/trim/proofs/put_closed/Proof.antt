@@ -10,14 +10,15 @@ use Rattle.trim.proofs.put_closed.Tie as tie
 
 returns : tie.Need-returns
 returns c =
-    let closes = c .before .before in
-    let args = closes .before .before .args in
+    let puts = c .before .before .before in
+    let closes = puts .before in
+    let args = closes .before .before .before .args in
     record {
       put =
-          c .before .put-row .ensures
+          puts .put-row .ensures
           ∙ ap (λ (y : Row). sets (args .rs .now) (3 * args .s .count) (rowWords y)) (closes .close .ensures);
       state = refl;
     }
 
 pub put-closed-spec : {M : Type 1} → statement M
-put-closed-spec = tie.close (tie.spec (λ c κs. search needs) (λ c κs. search needs) (λ c. search needs) returns)
+put-closed-spec = tie.close (tie.spec (λ c κs. search needs) (λ c κs. search needs) (λ c. search needs) (λ c. search needs) returns)
