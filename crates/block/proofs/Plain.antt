@@ -5,13 +5,13 @@ use mathlib.Core.List.{List, [], _∷_}
 use mathlib.Core.Logic.{_≢_}
 use Prim.Native.Nat.{ℕ, zero, suc, _+_, _<_, _≤_}
 use native.Mathlib.Omega.{arith}
-use lib.ListN.{length, getD}
+use lib.ListN.{getD}
 use lib.Dec.{eqb}
 use Rattle.symbol.specs.declared.Loc.{Loc}
 use Rattle.symbol.specs.Place.{wordPlace}
 use Rattle.definitions.specs.Tree.{Tree, constant, variable, one, two, depth}
 use Rattle.definitions.specs.Statement.{Statement, assign, call}
-use Rattle.definitions.specs.Eliminate.{Rewritten, kept, find, rewrite, eliminate, textsOf}
+use Rattle.definitions.specs.Eliminate.{kept, find, rewrite, eliminate, textsOf}
 use Rattle.node.specs.declared.Node.{Node}
 use Rattle.node.specs.declared.Node.the-variants.{Const, Var, Unary, Binary}
 use Rattle.node.specs.Nodes.{nodeAt, nodeTree, treeFrom, tree}
@@ -37,7 +37,8 @@ module _ (temporary : ℕ → Loc) where
   eliminate-none : (st : List ℕ) (ss : List Statement) → eliminate [] temporary st ss ≡ ss
   unfolding eliminate
   eliminate-none st [] = refl
-  eliminate-none st (assign p t ∷ ss) = rw (rewrite-none (depth t) st t) (ap (λ (l : List Statement). assign p t ∷ l) (eliminate-none st ss))
+  eliminate-none st (assign p t ∷ ss) =
+      rw (rewrite-none (depth t) st t) (ap (λ (l : List Statement). assign p t ∷ l) (eliminate-none st ss))
   eliminate-none st (call p c ∷ ss) = ap (λ (l : List Statement). call p c ∷ l) (eliminate-none st ss)
 
 -- ---- nodes without marks

@@ -1,6 +1,6 @@
 -- The mix of a node from those of its sides, as marks show them; and trees with other mixes are not the same. Assumes nothing.
 use mathlib.Core.Path.{_≡_, refl, sym, ap, ap₂, _∙_}
-use mathlib.Core.Bool.{Bool, true, false, cond}
+use mathlib.Core.Bool.{false}
 use mathlib.Core.List.{List}
 use mathlib.Core.Logic.{_≢_}
 use Prim.Native.Nat.{ℕ, zero, suc, _+_, _-_, _<_, _≤_}
@@ -10,8 +10,7 @@ use lib.Dec.{eqb}
 use borrow.Author.Tests.{ne-eqb}
 use Rattle.limits.specs.Limits.{depthLimit, sideLimit, temporaryLimit}
 use Rattle.symbol.specs.declared.Loc.{Loc}
-use Rattle.symbol.specs.Place.{samePlace}
-use Rattle.symbol.proofs.PlacesBack.{same-place-equal, same-place-self}
+use Rattle.symbol.proofs.PlacesBack.{same-place-self}
 use Rattle.operation.specs.declared.One.{One}
 use Rattle.operation.specs.declared.Two.{Two}
 use Rattle.definitions.specs.Tree.{Tree, variable}
