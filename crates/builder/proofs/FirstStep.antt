@@ -42,8 +42,10 @@ zeros-unmark = record { blank = λ i. zeros-unmarked nodeLimit i; wide = length-
 -- ---- from the rows that sharing left
 
 module _ (g : Settings) (ws ms er : List ℕ) (e : State) (handed : SheetEliminated ws ms er (g .nodes) e) (ms′ rs : List ℕ) (s : State)
-    (put : SheetTrimmed (g .sharing) (g .scratch) ws ms ms′ er rs (g .nodes) e s) (es : List ℕ) (numbers : Ershovs ws ms′ es 0 (g .nodes))
-    (wide : Bool) (by-rows : (places : ℕ → Loc) → wide ≡ tooWide (g .scratch) (statementsOf places ws ms′ (rowsFrom rs 0 (s .count))))
+    (put : SheetTrimmed (g .sharing) (g .scratch) ws ms ms′ er rs (g .nodes) e s) (es : List ℕ)
+    (numbers : Ershovs ws ms′ es 0 (g .nodes))
+    (wide : Bool)
+    (by-rows : (places : ℕ → Loc) → wide ≡ tooWide (g .scratch) (statementsOf places ws ms′ (rowsFrom rs 0 (s .count))))
   where
     rows-listable : Listable ws ms′ es rs s
     rows-listable =
@@ -60,7 +62,8 @@ module _ (g : Settings) (ws ms er : List ℕ) (e : State) (handed : SheetElimina
         }
 
     -- check 8 of the rows is that of the statements
-    wide-is : (places : ℕ → Loc) → Fresh places ws (g .nodes) → tooWide (g .scratch) (trimsRows g ws ms er e places .statements) ≡ wide
+    wide-is : (places : ℕ → Loc) → Fresh places ws (g .nodes) →
+        tooWide (g .scratch) (trimsRows g ws ms er e places .statements) ≡ wide
     wide-is places f = rw (put .trimmed places f) (sym (by-rows places))
 
     pub rows-refused : wide ≡ true → RowsTrimTo g ws ms er e ms′ es rs (Refused 8)

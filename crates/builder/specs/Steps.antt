@@ -83,7 +83,8 @@ TrimsTo h ws rows n ms es rs (Trimmed s) =
     Listable ws ms es rs s
     × ((file : List ℕ) → h ≡ headerOf file → SheetRead file ws rows n →
     compiled file ≡ got (rowsSay file ws ms rs s) (s .next))
-TrimsTo h ws rows n ms es rs (Refused k) = (file : List ℕ) → h ≡ headerOf file → SheetRead file ws rows n → compiled file ≡ bad k
+TrimsTo h ws rows n ms es rs (Refused k) = (file : List ℕ) → h ≡ headerOf file → SheetRead file ws rows n →
+    compiled file ≡ bad k
 
 -- so is the second, of the statements that the rows say
 unfoldable pub ListsTo : (h : Header) (ws ms rs : List ℕ) (s : State) (out out′ : List ℕ) → Answer → Type 0

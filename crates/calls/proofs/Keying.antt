@@ -77,7 +77,8 @@ keyed-still {ws} {ms} {rs} {heads} {count} ms′ still x =
         SeenMix ws ms b (x .key k) → SeenMix ws ms′ b (x .key k)
     same-mix k b e h temporary n f l = h temporary n f l ∙ ap (treeMix temporary) (sym (e temporary))
 
-    mix-still : (k : ℕ) (r : Row) → ((temporary : ℕ → Loc) → OnRoot (λ b. seen temporary ws ms′ b ≡ seen temporary ws ms b) r) →
+    mix-still : (k : ℕ) (r : Row) →
+        ((temporary : ℕ → Loc) → OnRoot (λ b. seen temporary ws ms′ b ≡ seen temporary ws ms b) r) →
         OnRoot (λ b. SeenMix ws ms b (x .key k) → SeenMix ws ms′ b (x .key k)) r
     mix-still k (Given p b) e = same-mix k b e
     mix-still k (Copied p j) e = tt
@@ -87,7 +88,8 @@ keyed-still {ws} {ms} {rs} {heads} {count} ms′ still x =
 
 -- ---- words are put after count rows, and the keys before are kept
 
-module _ (key key′ : ℕ → ℕ) (rs : List ℕ) (count : ℕ) (xs : List ℕ) (kept : (j : ℕ) → j < count → key′ j ≡ key j) where
+module _ (key key′ : ℕ → ℕ) (rs : List ℕ) (count : ℕ) (xs : List ℕ)
+    (kept : (j : ℕ) → j < count → key′ j ≡ key j) where
   abbrev rs′ : List ℕ
   rs′ = sets rs (3 * count) xs
 

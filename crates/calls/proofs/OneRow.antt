@@ -105,7 +105,8 @@ module _ {ws : List ℕ} {i m b : ℕ} {row : Row} (s : CallSought ws i (row ∷
     other-call-misses e = record { mark = λ next l. omega arith; is = λ temporary f. rw (made-sought temporary f, e) refl }
 
   -- a call with another mix is another call
-  pub other-mix-misses : (ms : List ℕ) {x y : ℕ} → SeenMix ws ms b x → SeenMix ws ms i y → x ≢ y → CallFound ws ms i (row ∷ []) 0
+  pub other-mix-misses : (ms : List ℕ) {x y : ℕ} → SeenMix ws ms b x → SeenMix ws ms i y → x ≢ y →
+      CallFound ws ms i (row ∷ []) 0
   other-mix-misses ms h k apart = other-call-misses ms (mixes-differ ws ms b i h k apart) refl
 
 -- ---- a row that makes none

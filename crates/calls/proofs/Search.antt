@@ -98,7 +98,8 @@ found-first {ws} {ms} {i} {r} {rows} {m} {later} here rest =
 
 -- ---- the rows of a chain, from its last row on
 
-sought-row : {ws : List ℕ} {i : ℕ} (rs : List ℕ) (count : ℕ) → CallSought ws i (rowsFrom rs 0 count) → (k : ℕ) → k < count →
+sought-row : {ws : List ℕ} {i : ℕ} (rs : List ℕ) (count : ℕ) → CallSought ws i (rowsFrom rs 0 count) → (k : ℕ) →
+    k < count →
     CallSought ws i (rowAt rs k ∷ [])
 sought-row rs count s k l =
     record {

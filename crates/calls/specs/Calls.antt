@@ -70,7 +70,8 @@ pub record CallMade (rs rs′ : List ℕ) (i : ℕ) (s : State) (link : ℕ) (r 
 
 -- it was broken out: an earlier call gives its temporary, or a row is put for it
 pub data CallBroken (sharing : Bool) (ws ms rs rs′ hs hs′ : List ℕ) (n i : ℕ) (s : State) (r : Trimmed) : Type 0 where
-  found : rs′ ≡ rs → hs′ ≡ hs → (m : ℕ) → r ≡ record { next = s .next; count = s .count; ershov = 1; temp = m } → 0 < m → m ≤ s .next
+  found : rs′ ≡ rs → hs′ ≡ hs → (m : ℕ) → r ≡ record { next = s .next; count = s .count; ershov = 1; temp = m } →
+      0 < m → m ≤ s .next
       → ((temporary : ℕ → Loc) → Fresh temporary ws n →
       sought sharing temporary ws ms i (rowsFrom rs 0 (s .count)) ≡ some (temporary (m - 1)))
       → CallBroken sharing ws ms rs rs′ hs hs′ n i s r

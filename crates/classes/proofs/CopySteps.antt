@@ -24,7 +24,8 @@ told-inside n i e s = sides-told (λ a. a < n) i e s
 pub told-mix : (f : ℕ → ℕ) (i : ℕ) {x y : Node} {r : ℕ} → x ≡ y → r ≡ nodeMix f i y → r ≡ nodeMix f i x
 told-mix f i e h = rw e h
 
-pub told-sides : (class : ℕ → ℕ) (i : ℕ) {x y : Node} {r : Sides} → x ≡ y → r ≡ sideClasses class i y → r ≡ sideClasses class i x
+pub told-sides : (class : ℕ → ℕ) (i : ℕ) {x y : Node} {r : Sides} → x ≡ y → r ≡ sideClasses class i y →
+    r ≡ sideClasses class i x
 told-sides class i e h = rw e h
 
 pub binary-sides : (class : ℕ → ℕ) (i : ℕ) {x : Node} {o : Two} {right : ℕ} {k : Bool} {r : Sides} → x ≡ Binary o right →
@@ -32,7 +33,8 @@ pub binary-sides : (class : ℕ → ℕ) (i : ℕ) {x : Node} {o : Two} {right :
 binary-sides class i e q h = rw e (rw q at h)
 
 -- a copy is made of a node and its sides
-pub copy-told : (class : ℕ → ℕ) (i : ℕ) {x y : Node} {s : Sides} {q : Copied} → x ≡ y → s ≡ sideClasses class i x → q ≡ copied x s →
+pub copy-told : (class : ℕ → ℕ) (i : ℕ) {x y : Node} {s : Sides} {q : Copied} → x ≡ y → s ≡ sideClasses class i x →
+    q ≡ copied x s →
     q ≡ copyOf class i y
 copy-told class i {x} e es eq = rw (← e) (eq ∙ ap (copied x) es)
 

@@ -28,7 +28,8 @@ use Rattle.classes.proofs.Chains.{none-linked, linked-more}
 use Rattle.classes.proofs.Parts.{part, part-length}
 
 -- a node of the table has its sides inside an array with a word for each node
-pub sides-inside : {ws : List ℕ} {n i size : ℕ} {x : Node} → Table ws n → size ≡ n → i < n → x ≡ nodeAt ws i → SidesInside size i x
+pub sides-inside : {ws : List ℕ} {n i size : ℕ} {x : Node} → Table ws n → size ≡ n → i < n → x ≡ nodeAt ws i →
+    SidesInside size i x
 sides-inside {ws} {n} {i} {size} t q l e =
     rw e
     (sides-more (Between i n) (λ a. a < size) (λ a b. omega (arith, b .below)) i (nodeAt ws i) (sides-between t i l))
@@ -187,6 +188,7 @@ pub classed-before : {ws mx heads chain cs : List ℕ} {o n : ℕ} → 0 < o →
 classed-before {o = o} z old = let e : suc (o - 1) ≡ o = omega arith in rw e old
 
 -- either pair of arrays, as far as there are nodes
-pub parts-fitted : {ws cs : List ℕ} {n : ℕ} (mx chain : List ℕ) → Table ws n → length cs ≡ n → n ≤ length mx → n ≤ length chain →
+pub parts-fitted : {ws cs : List ℕ} {n : ℕ} (mx chain : List ℕ) → Table ws n → length cs ≡ n → n ≤ length mx →
+    n ≤ length chain →
     Fitted ws cs (part n mx) n × (length (part n chain) ≡ n)
 parts-fitted {n = n} mx chain t c h k = (record { table = t; css = c; mxs = part-length n mx h }, part-length n chain k)

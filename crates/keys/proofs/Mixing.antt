@@ -114,7 +114,8 @@ module _ (ws ms : List ℕ) (i : ℕ) where
 
 -- ---- what a search makes of it
 
-pub mixes-differ : (ws ms : List ℕ) (a b : ℕ) {x y : ℕ} → SeenMix ws ms a x → SeenMix ws ms b y → x ≢ y → SameSeen ws ms a b false
+pub mixes-differ : (ws ms : List ℕ) (a b : ℕ) {x y : ℕ} → SeenMix ws ms a x → SeenMix ws ms b y → x ≢ y →
+    SameSeen ws ms a b false
 mixes-differ ws ms a b h k apart temporary n f ends-a ends-b =
     sym
     (mixes-apart (placeMix temporary temporaryLimit) (seen temporary ws ms a) (seen temporary ws ms b)

@@ -26,7 +26,8 @@ MarksLow ms = (j : ℕ) → getD ms j 0 ≤ temporaryLimit
 
 -- r is the mix of a tree that ends among nodes of which no variable is a temporary
 abbrev pub MixOf : (shown : (temporary : ℕ → Loc) → Tree) (ws : List ℕ) (i r : ℕ) → Type 0
-MixOf shown ws i r = (temporary : ℕ → Loc) (n : ℕ) → Fresh temporary ws n → endAt ws i ≤ n → r ≡ treeMix temporary (shown temporary)
+MixOf shown ws i r = (temporary : ℕ → Loc) (n : ℕ) → Fresh temporary ws n → endAt ws i ≤ n →
+    r ≡ treeMix temporary (shown temporary)
 
 -- of a node without its own mark, and with it
 abbrev pub SeenMix : (ws ms : List ℕ) (i r : ℕ) → Type 0

@@ -230,7 +230,8 @@ module _ {ws sh tx : List ℕ} {t n : ℕ} {texts : List Tree} (a : TextShared w
         text-row-fits h = omega (arith, h, flag-pledges, x .rows, x .room, rows-spend (p′ .rows) 0 (p′ .count))
 
         -- inner trees before outer
-        text-put : RoomFor (p′ .rows) (p′ .count + 1) → TextsStored n texts ws sh p (put p′ (Kept t (getD tx t 0))) (atText ws tx t texts)
+        text-put : RoomFor (p′ .rows) (p′ .count + 1) → TextsStored n texts ws sh p (put p′ (Kept t (getD tx t 0)))
+            (atText ws tx t texts)
         text-put k =
             let root = getD tx t 0 in
             let r = Kept t root in

@@ -95,7 +95,8 @@ marked-more {cs} {ms} {sh} {i} {c} {v} h e l f s =
         go false p = let d = eqb-false i j p in s .marks j (omega arith)
 
 -- all statements walked, and all nodes marked
-module _ {ws cs rows : List ℕ} {n count : ℕ} {ms tx ms′ tx′ sh : List ℕ} {k : ℕ} (s : SheetHeld ws rows n count) (u : Unmarked ms)
+module _ {ws cs rows : List ℕ} {n count : ℕ} {ms tx ms′ tx′ sh : List ℕ} {k : ℕ} (s : SheetHeld ws rows n count)
+    (u : Unmarked ms)
     (g : SheetWalked ws cs rows n ms tx count ms′ tx′ k) (m : NodesMarked cs ms′ n sh) where
   noted : Noted ws cs n ms′ tx′ k (walkAll (sheetFrom ws rows 0 count) unmet)
   noted = g .noted unmet (start-noted ws cs n tx u)
@@ -126,7 +127,8 @@ module _ {ws cs rows : List ℕ} {n count : ℕ} {ms tx ms′ tx′ sh : List �
 module _ {ws rows : List ℕ} {n count : ℕ} (cs : List ℕ) (long : n ≤ length cs) where
   pub parts-held : (es : List ℕ) {sh : List ℕ} (tx : List ℕ) → n ≤ length es →
       SheetHeld ws rows n count × Unmarked sh × (length tx ≡ nodeLimit) →
-      SheetHeld ws rows (length (part n cs)) count × (length (part n es) ≡ length (part n cs)) × Unmarked sh × (length tx ≡ nodeLimit)
+      SheetHeld ws rows (length (part n cs)) count × (length (part n es) ≡ length (part n cs)) × Unmarked sh
+      × (length tx ≡ nodeLimit)
   parts-held es tx h p = rw (part-length n cs long) (p .0, part-length n es h, p .1, p .2)
 
   pub part-shares : {sh tx : List ℕ} {k : ℕ} → Shares ws rows (length (part n cs)) count sh tx k → Shares ws rows n count sh tx k

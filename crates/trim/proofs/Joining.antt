@@ -15,7 +15,8 @@ use Rattle.trim.specs.Joining.{JoinReady, SidesJoined, stored, joined}
 use Rattle.trim.proofs.TwoSides.{sides, two-joined}
 use Rattle.trim.proofs.Storing.{sound-now, store-room, two-stored}
 
-module _ {h : Settings} {ws ms rs hs : List ℕ} {n i r : ℕ} {p p1 : Progress} {o : Two} {a b : Answer} (ready : TrimReady h ws n (i + 1) i p)
+module _ {h : Settings} {ws ms rs hs : List ℕ} {n i r : ℕ} {p p1 : Progress} {o : Two} {a b : Answer}
+    (ready : TrimReady h ws n (i + 1) i p)
     (e : nodeAt ws i ≡ BinaryNode o r) (x : ViewTrimmed h ws n (i + 1) p p1 a)
     (y : ViewTrimmed h ws n r p1 (progress ms rs hs (stateOf b)) b) where
   pub join-ready : JoinReady h rs (i + 1) r (a .ershov) b

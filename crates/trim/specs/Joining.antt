@@ -38,4 +38,5 @@ pub record SidesStored (l r : ℕ) (s : State) (ms rs ms′ rs′ : List ℕ) (z
 pub data SidesJoined (h : Settings) (l r x : ℕ) (b : Answer) (ms rs ms′ rs′ : List ℕ) (z : Answer) : Type 0 where
   stored : isFull h x (b .ershov) ≡ true → SidesStored l r (stateOf b) ms rs ms′ rs′ z → SidesJoined h l r x b ms rs ms′ rs′ z
   joined : isFull h x (b .ershov) ≡ false → ms′ ≡ ms → rs′ ≡ rs
-      → z ≡ record { next = b .next; count = b .count; ershov = join x (b .ershov); temp = 0 } → SidesJoined h l r x b ms rs ms′ rs′ z
+      → z ≡ record { next = b .next; count = b .count; ershov = join x (b .ershov); temp = 0 } →
+      SidesJoined h l r x b ms rs ms′ rs′ z

@@ -36,4 +36,5 @@ returns-2 c =
 pub join-sides-spec : {M : Type 1} → statement M
 join-sides-spec =
     tie.close
-    (tie.spec (λ c κs. search needs) (λ c κs. search needs) split-requires (λ c. search needs) returns (λ c κs. search needs) returns-2)
+    (tie.spec (λ c κs. search needs) (λ c κs. search needs) split-requires (λ c. search needs) returns
+    (λ c κs. search needs) returns-2)
