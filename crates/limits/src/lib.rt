@@ -23,10 +23,8 @@ pub const SMALL: usize = 128;
 // The chains that sharing puts nodes into by their mixes: so many that few nodes share one.
 pub const SLOTS: usize = 1024;
 
-// The levels of a tree, and of a tree below a root.
+// The levels of a tree.
 pub const DEPTH: u32 = 64;
-
-pub const SIDE: u32 = DEPTH - 1;
 
 // Where stack indexes end.
 pub const INDEXES: u32 = 65536;
