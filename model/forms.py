@@ -202,7 +202,7 @@ def large():
     turned = [(f"m{at}", chain(64, f"p{at}", "cube")) for at in range(16)]
     yield "1,024 nodes, 16 chains, with sharing and nothing to share", sheet(*turned, sharing=True, fused=True), 0
     yield "1,023 nodes in one full tree, all of it shared", sheet(("m0", full(10)), scratch=2, sharing=True), 9
-    yield "882 calls, T = 882, a list of 2,674 operations", sheet(*many_calls(14), step=8), 882
+    yield "630 calls, T = 630, a list of 2,550 operations", sheet(*many_calls(10), step=8), 630
 
 
 GROUPS = (unary_codes, binary_codes, fused_codes, places, call_setup, calls, same_trees, shared_weights, shared_order,

@@ -1,4 +1,4 @@
-"""Document 01's marked sheets with their texts worked by hand, the two differences, and the five mistakes."""
+"""Document 01's marked sheets with their texts and needs worked by hand, the two differences, and the five mistakes."""
 from build import sheet
 from refusals import A, B, C, OTHER, SUM
 from sheet_model import Variant
@@ -17,51 +17,51 @@ BOTH_FROM_S10 = "load r0 s10;save r0 s0;load r0 s10;save r0 s1"
 CALL_AB = "load r1 m0;load r0 m1;swap r1 r0;call f7 2;save v s10;load r0 s10;save r0 s0;"
 CALL_BA = "load r1 m1;load r0 m0;swap r1 r0;call f7 2;save v s11;load r0 s11;save r0 s1"
 
-# Title, file, text: its lines parted by semicolons.
+# Title, file, text without records of need: its lines parted by semicolons; the numbers of the records.
 MARKED = [
     ("P: the sheet of document 01, s0 = m0 + m1 x m2", EXAMPLE,
-     "ops 6 temps 0;load r1 m1;load r0 m2;bi times r1 r1 r0;load r0 m0;bi plus r1 r0 r1;save r1 s0"),
+     "ops 6 temps 0;load r1 m1;load r0 m2;bi times r1 r1 r0;load r0 m0;bi plus r1 r0 r1;save r1 s0", (2,)),
     ("P: the same sheet, fused", sheet(FORMULA, fused=True),
-     "ops 4 temps 0;load r0 m1;loadmath times r1 r0 m2;loadmath plus r1 r1 m0;save r1 s0"),
-    ("P: no statements", sheet(), "ops 0 temps 0"),
+     "ops 4 temps 0;load r0 m1;loadmath times r1 r0 m2;loadmath plus r1 r1 m0;save r1 s0", (2,)),
+    ("P: no statements", sheet(), "ops 0 temps 0", ()),
     ("P: s0 = f7(m0)", sheet(("s0", ("f", 7, A))),
-     "ops 5 temps 1;load r0 m0;call f7 1;save v s10;load r0 s10;save r0 s0"),
+     "ops 5 temps 1;load r0 m0;call f7 1;save v s10;load r0 s10;save r0 s0", (1, 1)),
     ("P: (a+b) x (c+d) at scratch 2", sheet(("s0", ("times", SUM, OTHER)), scratch=2),
      "ops 12 temps 2;" + LOAD_SUM + "save r1 s10;" + LOAD_OTHER + "save r1 s11;"
-     "load r1 s10;load r0 s11;bi times r1 r1 r0;save r1 s0"),
+     "load r1 s10;load r0 s11;bi times r1 r1 r0;save r1 s0", (2, 2, 2)),
     ("P: (a+b) x (c+d) at scratch 3", sheet(("s0", ("times", SUM, OTHER)), scratch=3),
-     "ops 8 temps 0;" + WIDE_SUMS + "bi times r2 r2 r1;save r2 s0"),
-    ("P: f7(a+b, c+d) at scratch 2", sheet(("s0", ("f", 7, SUM, OTHER)), scratch=2), "refused 8"),
+     "ops 8 temps 0;" + WIDE_SUMS + "bi times r2 r2 r1;save r2 s0", (3,)),
+    ("P: f7(a+b, c+d) at scratch 2", sheet(("s0", ("f", 7, SUM, OTHER)), scratch=2), "refused 8", ()),
     ("P: f7(a+b, c+d) at scratch 3", sheet(("s0", ("f", 7, SUM, OTHER)), scratch=3),
-     "ops 11 temps 1;" + WIDE_SUMS + "move r0 r2;call f7 2;save v s10;load r0 s10;save r0 s0"),
+     "ops 11 temps 1;" + WIDE_SUMS + "move r0 r2;call f7 2;save v s10;load r0 s10;save r0 s0", (3, 1)),
     ("P: two statements of (a+b) x c, with sharing", sheet(("s0", ABC), ("s1", ABC), sharing=True),
-     "ops 10 temps 1;" + LOAD_ABC + "save r1 s10;" + BOTH_FROM_S10),
+     "ops 10 temps 1;" + LOAD_ABC + "save r1 s10;" + BOTH_FROM_S10, (2, 1, 1)),
     ("P: (a+b) x c, then c x (a+b), stored as c x (a+b)", sheet(("s0", ABC), ("s1", CAB), sharing=True),
-     "ops 10 temps 1;" + LOAD_SUM + "load r0 m2;bi times r1 r0 r1;save r1 s10;" + BOTH_FROM_S10),
+     "ops 10 temps 1;" + LOAD_SUM + "load r0 m2;bi times r1 r0 r1;save r1 s10;" + BOTH_FROM_S10, (2, 1, 1)),
     ("P: two of root(a+b), weight 4", sheet(("s0", ("root", SUM)), ("s1", ("root", SUM)), sharing=True),
-     "ops 10 temps 0;" + LOAD_SUM + "uni root r1 r1;save r1 s0;" + LOAD_SUM + "uni root r1 r1;save r1 s1"),
+     "ops 10 temps 0;" + LOAD_SUM + "uni root r1 r1;save r1 s0;" + LOAD_SUM + "uni root r1 r1;save r1 s1", (2, 2)),
     ("P: (a+b) - c and c - (a+b)", sheet(("s0", ("minus", SUM, C)), ("s1", ("minus", C, SUM)), sharing=True),
      "ops 12 temps 0;" + LOAD_SUM + "load r0 m2;bi minus r1 r1 r0;save r1 s0;"
-     + LOAD_SUM + "load r0 m2;bi minus r1 r0 r1;save r1 s1"),
+     + LOAD_SUM + "load r0 m2;bi minus r1 r0 r1;save r1 s1", (2, 2)),
     ("P: f7(a,b) and f7(b,a), with sharing", sheet(("s0", ("f", 7, A, B)), ("s1", ("f", 7, B, A)), sharing=True),
-     "ops 14 temps 2;" + CALL_AB + CALL_BA),
+     "ops 14 temps 2;" + CALL_AB + CALL_BA, (2, 1, 2, 1)),
     ("not marked: first 65,535, step 1, T = 1", sheet(("s0", ("f", 7, A)), first=65535),
-     "ops 5 temps 1;load r0 m0;call f7 1;save v s65535;load r0 s65535;save r0 s0"),
+     "ops 5 temps 1;load r0 m0;call f7 1;save v s65535;load r0 s65535;save r0 s0", (1, 1)),
     ("not marked: first 65,535, step 1, T = 2", sheet(("s0", ("f", 7, A)), ("s1", ("f", 7, B)), first=65535),
-     "refused 9"),
+     "refused 9", ()),
     ("difference: f0(c0,c0) + f0(c2,c2) are two calls; the Rust's key merges them and gives T = 1", MERGED_CALLS,
      "ops 14 temps 2;const r1 c0;const r0 c0;swap r1 r0;call f0 2;save v s0;"
-     "const r1 c2;const r0 c2;swap r1 r0;call f0 2;save v s1;load r1 s0;load r0 s1;bi plus r1 r1 r0;save r1 m0"),
+     "const r1 c2;const r0 c2;swap r1 r0;call f0 2;save v s1;load r1 s0;load r0 s1;bi plus r1 r1 r0;save r1 m0", (2, 2, 2)),
     ("difference: left argument in r1, right in r2: Left is moved first; the Rust moves Right first and loses it",
      LOST_LEFT, "ops 16 temps 1;const r2 c0;const r1 c0;bi plus r2 r2 r1;const r1 c0;const r0 c0;bi plus r1 r1 r0;"
      "bi plus r2 r2 r1;const r1 c0;const r0 c0;bi plus r1 r1 r0;move r0 r1;move r1 r2;call f0 2;save v s0;"
-     "load r0 s0;save r0 m0"),
+     "load r0 s0;save r0 m0", (3, 1)),
 ]
 
 BIG = ("plus", ("times", A, B), C)
 ROOT = ("root", ABC)
 
-# Mistake, its name in document 01, title, file, the right first line.
+# Mistake, its name in document 01, title, file, the right first line, counted without records of need.
 MISTAKES = [
     (Variant(left_at_base=True), "equal sides with left at b", "a - b", sheet(("s0", ("minus", A, B))),
      "ops 4 temps 0"),

@@ -2,7 +2,7 @@
 """pinned.py: prints the rows of the table of words, crates/definitions/proofs/Pinned.antt, as this implementation answers."""
 from build import header, sheet, statement
 from refusals import A, B, OTHER, SUM, chain
-from sheet_model import CALL, CONST, IFELSE, LOAD, LOADMATH, RET, SAVE, TEMP, WORK_WORDS, answer, line
+from sheet_model import CONST, IFELSE, LOAD, LOADMATH, NEED, RET, SAVE, TEMP, WORK_WORDS, answer, line
 
 ROOM = 3  # words lent past a list, and to a refusal
 DIGITS = 100  # of a file on a line
@@ -33,7 +33,7 @@ REFUSALS = [
     (7, "a temporary as destination", sheet(("s10", A)), WORK_WORDS, ROOM),
     (8, "two wide arguments", sheet(("s0", ("f", 7, SUM, OTHER)), scratch=2), WORK_WORDS, ROOM),
     (9, "temporaries past the last index", sheet(("s0", WIDE), scratch=2, first=65535), WORK_WORDS, ROOM),
-    (10, "a word of output too few", sheet(ONE), WORK_WORDS, 11),
+    (10, "a word of output too few", sheet(ONE), WORK_WORDS, 17),
 ]
 
 
@@ -63,7 +63,7 @@ def has_all(operations):
     to, one, two = ({op[field] for op in operations} for field in (2, 3, 4))
     places = {op[5] // 65536 for op in operations if op[0] in (LOAD, SAVE, IFELSE, LOADMATH)}
     registers = TEMP in to & two and RET in to & one & two
-    return registers and {op[0] for op in operations} == set(range(CONST, CALL + 1)) and places == {1, 2, 3}
+    return registers and {op[0] for op in operations} == set(range(CONST, NEED + 1)) and places == {1, 2, 3}
 
 
 def rows():

@@ -291,6 +291,7 @@ def temporaries():
     yield "8 before 9", sheet(("s0", ("f", 7, SUM, OTHER)), first=65535, step=8, scratch=2), 8
     yield "9: T = 1,008 at step 8 passes 65,536 by one", sheet(*many_calls(16), first=57473, step=8), 9
     yield "10, not 9: T = 1,008 at step 8 ends at 65,536", sheet(*many_calls(16), first=57472, step=8), 10
+    yield "10: 882 calls, T = 882, a list of 3,570 operations", sheet(*many_calls(14), step=8), 10
 
 
 def many_calls(count):
@@ -304,8 +305,8 @@ def many_calls(count):
 def output_room():
     call, two = sheet(("s0", CALL)), sheet(ONE, ("s1", SUM))
     yield "10: nothing to write, no words lent", header(0), 0, 16384, 0
-    for title, file, count in (("one load and save", sheet(ONE), 2), ("a sum", sheet(("s0", SUM)), 4), (
-            "a call", call, 5), ("two statements", two, 6), ("a full tree", sheet(("s0", full(7)), scratch=7), 128)):
+    for title, file, count in (("one load and save", sheet(ONE), 3), ("a sum", sheet(("s0", SUM)), 5), (
+            "a call", call, 7), ("two statements", two, 8), ("a full tree", sheet(("s0", full(7)), scratch=7), 129)):
         yield f"10: {title}, 6 x {count} words", file, 0, 16384, 6 * count
         yield f"10: {title}, 6 x {count} - 1 words", file, 10, 16384, 6 * count - 1
         yield f"10: {title}, 6 x {count} + 1 words", file, 0, 16384, 6 * count + 1

@@ -1,11 +1,11 @@
-"""What a sheet is worth, how a list runs, and demand 3 tried on one sheet.
+"""What a sheet is worth, how a list runs, and demand 3 and the claim of T-01 tried on one sheet.
 
 A meaning here is a set of random functions on the whole numbers below SIZE: two different trees have
 different values but for rare chance, so a wrong operation shows.
 """
 from sheet_model import (
     BI, BINARY, BINARY_TAG, CALL, CHOICE_TAG, COMMUTING, CONST, CONST_TAG, CONSTMATH,
-    IFELSE, LEFT, LOAD, LOADMATH, MOVE, RET, RIGHT, SAVE, SWAP, TEMPORARY, UNARY, UNARY_NAMES, UNARY_TAG,
+    IFELSE, LEFT, LOAD, LOADMATH, MOVE, NEED, RET, RIGHT, SAVE, SWAP, TEMP, TEMPORARY, UNARY, UNARY_NAMES, UNARY_TAG,
     UNI, VAR_TAG, Assign, Emitter, Refused, check_calls, read_sheet, trimmed_sheet)
 
 SIZE = 2147483647
@@ -104,7 +104,8 @@ def result_of(op, memory, registers, meaning):
 
 
 def run_list(words, memory, registers, meaning, spoil):
-    """Runs the words; memory changes in place, the registers left are returned. `spoil` seeds what calls leave."""
+    """Runs the words; memory changes in place, the registers left are returned. `spoil` seeds what calls leave. It passes over
+    records of need, and over any kind that it does not know."""
     for at in range(0, len(words), 6):
         kind, code, to, s1, _, place = op = words[at:at + 6]
         if kind == SAVE:
@@ -115,7 +116,7 @@ def run_list(words, memory, registers, meaning, spoil):
             arguments = [registers[number] for number in (LEFT, RIGHT)[:s1]]
             registers = Cells(spoil, at)
             registers[RET] = meaning.function(code, *arguments)
-        else:
+        elif CONST <= kind < CALL:
             registers[to] = result_of(op, memory, registers, meaning)
     return registers
 
@@ -152,6 +153,19 @@ def check_assignment(assign, operations, sheet, meaning, seed):
     assert memory == {sheet.word(assign.place): expected}, "not the tree's value in its place"
 
 
+def check_needs(words, scratch):
+    """T-01, from the list alone: a record's number is from 1 to the scratch count, and no operation writes a scratch register
+    at or above that of the record last read, a call's own spoiling aside."""
+    need = 0
+    for at in range(0, len(words), 6):
+        kind, code, to, s1, *_ = words[at:at + 6]
+        if kind == NEED:
+            need = code
+            assert 1 <= need <= scratch, "a need that is none"
+        written = {SAVE: (), CALL: (), NEED: (), SWAP: (to, s1)}.get(kind, (to,))
+        assert all(number < need or number in (TEMP, RET) for number in written), "a register that no record has"
+
+
 def check_whole(sheet, words, temporaries, meaning, seed):
     """The second half of demand 3: the whole list against the sheet carried out in order."""
     by_sheet, by_list = Cells(seed, 3), Cells(seed, 3)
@@ -183,7 +197,9 @@ def check_demand3(file, seed):
     for statement, operations in zip(trimmed, groups):
         if isinstance(statement, Assign):
             check_assignment(statement, operations, sheet, meaning, seed)
+    words = [word for group in groups for word in words_of(group)]
+    check_needs(words, sheet.scratch)
     if not condition_holds(sheet):
         return "assignments"
-    check_whole(sheet, [word for group in groups for word in words_of(group)], temporaries, meaning, seed)
+    check_whole(sheet, words, temporaries, meaning, seed)
     return "whole"

@@ -1,6 +1,6 @@
-"""Document 01 as a program: from the bytes of a spacing sheet to its answer and its printed text.
+"""Document 01 as a program, with T-01 of document 02: from the bytes of a spacing sheet to its answer and its printed text.
 
-Written from the words of document 01, in its order, to be read beside it. Nothing here is fast or clever.
+Written from the words of the documents, in their order, to be read beside them. Nothing here is fast or clever.
 A place is (kind, index); the n-th temporary is (TEMPORARY, n) until its stack index is needed.
 """
 from dataclasses import dataclass
@@ -319,7 +319,7 @@ def trimmed_sheet(sheet, variant=AS_WRITTEN):
 
 # ---- Emission ----------------------------------------------------------------------------------------------
 
-CONST, LOAD, SAVE, MOVE, SWAP, UNI, BI, IFELSE, LOADMATH, CONSTMATH, CALL = range(1, 12)
+CONST, LOAD, SAVE, MOVE, SWAP, UNI, BI, IFELSE, LOADMATH, CONSTMATH, CALL, NEED = range(1, 13)
 LEFT, RIGHT, TEMP, RET = 0, 1, 254, 255
 
 
@@ -429,12 +429,15 @@ class Emitter:
         return before + moves + [operation(CALL, call.function, s1=len(call.arguments))], RET
 
     def statement(self, statement):
-        """The operations of one trimmed statement, its save among them."""
+        """The record of one trimmed statement's need, then its operations, its save among them."""
         if isinstance(statement, Call):
             before, register = self.call(statement)
+            need = ershov_number(statement.arguments)
         else:
             before, register = self.tree(statement.tree, 0), statement.tree.ershov - 1
-        return before + [operation(SAVE, s1=register, place=self.sheet.word(statement.place))]
+            need = statement.tree.ershov
+        save = operation(SAVE, s1=register, place=self.sheet.word(statement.place))
+        return [operation(NEED, need), *before, save]
 
 
 # ---- The answer --------------------------------------------------------------------------------------------
@@ -473,6 +476,13 @@ def answer(file, work_words=WORK_WORDS, out_words=OUT_WORDS, variant=AS_WRITTEN)
     return Answer(0, len(words) // 6, temporaries, words + [0] * (out_words - len(words)))
 
 
+def without_needs(result):
+    """The answer with the records of need dropped from its list, and counted without them."""
+    end = 6 * result.operations
+    kept = [word for at in range(0, end, 6) if result.output[at] != NEED for word in result.output[at:at + 6]]
+    return result._replace(operations=len(kept) // 6, output=kept + result.output[end:])
+
+
 # ---- The printed text --------------------------------------------------------------------------------------
 
 def register_name(register):
@@ -496,7 +506,7 @@ def line(op):
         MOVE: f"move {to} {one}", SWAP: f"swap {to} {one}", UNI: f"uni {code} {to} {one}",
         BI: f"bi {code} {to} {one} {two}", IFELSE: f"ifelse {to} {one} {two} {at}",
         LOADMATH: f"loadmath {code} {to} {one} {at}", CONSTMATH: f"constmath {code} {to} {one} c{place}",
-        CALL: f"call f{code} {s1}"}[kind]
+        CALL: f"call f{code} {s1}", NEED: f"need {code}"}[kind]
 
 
 def text(result):

@@ -10,7 +10,7 @@ import refusals
 from build import damaged, random_sheet, sheet
 from marked import MARKED, MISTAKES
 from refusals import A, B, chain, full
-from sheet_model import OUT_WORDS, WORK_WORDS, answer, text
+from sheet_model import OUT_WORDS, WORK_WORDS, answer, text, without_needs
 
 MOST_SIZE = 900_000
 
@@ -37,10 +37,19 @@ def need(holds, title):
         sys.exit(f"the model and the case list differ: {title}")
 
 
+def needs_of(expected):
+    """The numbers of a text's records, one before each statement, which ends with its save."""
+    lines = expected.splitlines()
+    starts = [after for line, after in zip(lines, lines[1:]) if line.startswith(("ops ", "save "))]
+    numbers = [int(line.removeprefix("need ")) for line in lines if line.startswith("need ")]
+    return tuple(numbers) if starts == [f"need {number}" for number in numbers] else None
+
+
 def marked_vectors():
-    for title, file, expected in MARKED:
+    for title, file, expected, needs in MARKED:
         made = vector(title, file)
-        need(made.expected == expected.replace(";", "\n") + "\n", title)
+        need(text(without_needs(answer(file))) == expected.replace(";", "\n") + "\n", title)
+        need(needs_of(made.expected) == needs, title)
         yield made
 
 
@@ -49,7 +58,7 @@ def mistake_vectors():
         wrong = text(answer(file, variant=mistake))
         comments = [f"a program with this mistake answers {' / '.join(wrong.splitlines())}"]
         made = vector(f"wrong on film, {name}: {title}", file, comments=comments)
-        need(made.expected != wrong and made.expected.startswith(first_line + "\n"), title)
+        need(made.expected != wrong and text(without_needs(answer(file))).startswith(first_line + "\n"), title)
         yield made
 
 
@@ -76,19 +85,22 @@ def form_vectors():
 
 
 def room_vectors():
-    """The nearest lists on both sides of 16,384 words: 2,730 operations are 16,380 words."""
-    tree = full(9, name="rem")
-    rest = [("m1", full(8, B, "rem")), ("m3", full(4, B, "rem"))]
-    base = answer(sheet(("m0", tree), *rest, ("m4", A), scratch=2), out_words=10**6).operations
-    for count in (2730, 2731):
-        file = sheet(("m0", tree), *rest, ("m4", chain(1 + count - base)), scratch=2)
-        made = vector(f"10: {count} operations, 16,384 words", file)
-        need(made.expected.startswith("ops 2730 " if count == 2730 else "refused 10\n"), count)
-        yield made
+    """The nearest lists on both sides of 16,384 words, records counted and not: 2,730 operations are 16,380 words."""
+    for title, dropped, *rest in (
+            (" without records", without_needs, ("m1", full(8, B, "rem")), ("m3", full(4, B, "rem"))),
+            ("", lambda result: result, ("m1", full(7, B, "rem")), ("m2", full(5, B, "rem")), ("m3", B))):
+        trees = [("m0", full(9, name="rem")), *rest]
+        base = dropped(answer(sheet(*trees, ("m4", A), scratch=2), out_words=10**6)).operations
+        for count in (2730, 2731):
+            file = sheet(*trees, ("m4", chain(1 + count - base)), scratch=2)
+            need(dropped(answer(file, out_words=10**6)).operations == count, count)
+            made = vector(f"10: {count} operations{title}, 16,384 words", file)
+            need(made.expected.startswith("refused 10\n" if title or count == 2731 else "ops 2730 "), count)
+            yield made
     widest = sheet(("m0", full(10, name="rem")), scratch=2)
-    made = vector("10: one tree of 1,023 nodes, a list of 3,577 operations", widest)
-    need(made.expected == "refused 10\n", "3,577 operations")
-    need(answer(widest, out_words=6 * 3577).operations == 3577, "3,577 operations")
+    made = vector("10: one tree of 1,023 nodes, a list of 4,088 operations", widest)
+    need(made.expected == "refused 10\n", "4,088 operations")
+    need(answer(widest, out_words=6 * 4088).operations == 4088, "4,088 operations")
     yield made
 
 

@@ -10,6 +10,7 @@ use crate::rust::mir::{ArithOp, BinOp, Instruction, Mir, UniOp};
 use crate::rust::node::Node;
 use crate::rust::operation::Operation as Name;
 use crate::rust::serializer::Record;
+use crate::rust::statement::Statement;
 use crate::rust::symbol::{Loc, Symbol, SymbolTable};
 use crate::rust::utils::Reg;
 use crate::sheet::{Place, Sheet, Tree, MEMORY, STACK};
@@ -29,22 +30,40 @@ pub fn compile_bytes(bytes: &[u8]) -> Answer {
         Err(_) => Answer::Unreadable,
         Ok(sheet) => match compile_sheet(&sheet, None) {
             Err(emitted) => Answer::Error(emitted),
-            Ok(listing) => Answer::List(listing),
+            Ok(compiled) => Answer::List(compiled.listing),
         },
     }
 }
 
-/// The Rust's list; where it returns an error, how many operations it had emitted. With classes, calls are
-/// named by them.
-pub fn compile_sheet(sheet: &Sheet, classes: Option<Classes>) -> Result<Listing, usize> {
+/// The Rust's list, and the Ershov number that it gives the tree of each trimmed statement.
+pub struct Compiled {
+    pub listing: Listing,
+    pub needs: Vec<u32>,
+}
+
+/// What the Rust makes of a sheet; where it returns an error, how many operations it had emitted. With classes,
+/// calls are named by them.
+pub fn compile_sheet(sheet: &Sheet, classes: Option<Classes>) -> Result<Compiled, usize> {
     let mut run = Run::new(sheet, classes);
     if !run.compile_mir() {
         return Err(run.mir.code.records.len());
     }
-    Ok(Listing {
+    let block = run.builder.block();
+    let needs = block.stmts.iter().map(ershov_number).collect();
+    let listing = Listing {
         operations: run.mir.code.records.iter().map(operation).collect(),
-        temporaries: run.builder.block().num_tmp as u32,
-    })
+        temporaries: block.num_tmp as u32,
+    };
+    Ok(Compiled { listing, needs })
+}
+
+/// Of an assignment's tree, and of a call with its arguments.
+fn ershov_number(statement: &Statement) -> u32 {
+    match statement {
+        Statement::Assign { rhs, .. } => rhs.ershov_number().into(),
+        Statement::Call { arg, .. } => arg.ershov_number().into(),
+        other => unreachable!("outside document 01: {other:?}"),
+    }
 }
 
 /// A sheet's nodes, made and handed to the Rust's builder, before `compile_mir`.

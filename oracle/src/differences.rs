@@ -1,8 +1,8 @@
-//! The three differences of document 01 worked into the Rust's answer, without changing the Rust.
+//! The three differences of document 01 and the records of T-01 worked into the Rust's answer, without changing the Rust.
 
 use std::collections::HashMap;
 
-use crate::compile::compile_sheet;
+use crate::compile::{compile_sheet, Compiled};
 use crate::sheet::{Sheet, Tree};
 use crate::text::{kind, Listing};
 
@@ -20,12 +20,13 @@ pub fn expected(bytes: &[u8]) -> Result<Listing, u8> {
 /// What document 01 asks for a file by checks 2 to 9, which do not look at what was lent.
 pub fn listed(bytes: &[u8]) -> Result<Listing, u8> {
     let sheet = Sheet::read(bytes)?;
-    let mut listing = compile_sheet(&sheet, Some(Classes::default())).map_err(|_| 8)?;
+    let Compiled { mut listing, needs } =
+        compile_sheet(&sheet, Some(Classes::default())).map_err(|_| 8)?;
     if past_last_index(&sheet, &listing) {
         return Err(9);
     }
     move_left_first(&mut listing);
-    Ok(listing)
+    Ok(listing.with_needs(&needs))
 }
 
 /// The same with the lent words looked at: check 1 comes before the others, check 10 after them.

@@ -1,4 +1,4 @@
-//! The list, its words and its text as document 01 gives them.
+//! The list, its words and its text as document 01 gives them, with the records of T-01.
 
 use std::fmt::{self, Display, Formatter};
 
@@ -49,6 +49,7 @@ pub mod kind {
     pub const LOADMATH: u32 = 9;
     pub const CONSTMATH: u32 = 10;
     pub const CALL: u32 = 11;
+    pub const NEED: u32 = 12;
 }
 
 /// What the place word of an operation stands for.
@@ -93,6 +94,27 @@ impl Operation {
 impl Listing {
     pub fn words(&self) -> Vec<u32> {
         self.operations.iter().flat_map(|operation| operation.words()).collect()
+    }
+
+    /// How many statements it is of: each ends with the only save that it has.
+    pub fn statements(&self) -> usize {
+        self.operations.iter().filter(|operation| operation.kind == kind::SAVE).count()
+    }
+
+    /// The list with a record of need before each statement (T-01).
+    pub fn with_needs(&self, needs: &[u32]) -> Listing {
+        let statements = self.operations.split_inclusive(|operation| operation.kind == kind::SAVE);
+        let recorded = needs.iter().zip(statements).flat_map(|(need, statement)| {
+            let record = Operation { kind: kind::NEED, code: *need, ..Operation::default() };
+            [&[record], statement].concat()
+        });
+        Listing { operations: recorded.collect(), temporaries: self.temporaries }
+    }
+
+    /// And without.
+    pub fn without_needs(&self) -> Listing {
+        let operations = self.operations.iter().filter(|operation| operation.kind != kind::NEED);
+        Listing { operations: operations.copied().collect(), temporaries: self.temporaries }
     }
 }
 
@@ -149,6 +171,7 @@ impl Display for Operation {
             kind::LOADMATH => write!(out, "loadmath {} {d} {s1} {site}", binary(code)),
             kind::CONSTMATH => write!(out, "constmath {} {d} {s1} {site}", binary(code)),
             kind::CALL => write!(out, "call f{code} {}", self.s1),
+            kind::NEED => write!(out, "need {code}"),
             other => unreachable!("operation kind {other}"),
         }
     }

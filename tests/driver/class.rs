@@ -38,17 +38,17 @@ pub fn class(file: &[u8], rust: &Answer, listed: &Result<Listing, u8>) -> Class 
     };
     match (rust, expected) {
         (Answer::Error(_), Err(8)) => Class::Error,
-        (Answer::List(own), Ok(list)) => between_lists(&sheet, own, list),
+        (Answer::List(own), Ok(list)) => between_lists(&sheet, own, &list.without_needs()),
         (Answer::List(own), Err(number)) => where_refused(&sheet, own, number),
         _ => Class::Unexplained,
     }
 }
 
-/// The Rust's list beside a refusal 8 to 10: it passes the same limit, or has too few calls to pass it.
+/// The Rust's list beside a refusal 8 to 10: it passes the same limit, records counted, or has too few calls to pass it.
 fn where_refused(sheet: &Sheet, own: &Listing, number: u8) -> Class {
     let passes = match number {
         9 => past_last_index(sheet, own),
-        10 => 6 * own.operations.len() > OUTPUT_WORDS,
+        10 => 6 * (own.operations.len() + own.statements()) > OUTPUT_WORDS,
         _ => false,
     };
     match passes {
@@ -58,6 +58,7 @@ fn where_refused(sheet: &Sheet, own: &Listing, number: u8) -> Class {
     }
 }
 
+/// Two lists without records of need, which the Rust does not have.
 fn between_lists(sheet: &Sheet, own: &Listing, list: &Listing) -> Class {
     let mut moved = own.clone();
     move_left_first(&mut moved);
