@@ -20,12 +20,12 @@ use Rattle.operation.specs.declared.Two.the-variants.{Binary, Choice, Function2
 use Rattle.definitions.specs.Tree.{Tree, constant, variable, one, two, reads}
 use Rattle.definitions.specs.Statement.{Statement, assign}
 use Rattle.definitions.specs.Sheet.{got, Bytes, sheetOf}
-use Rattle.definitions.specs.Operations.{Op, opLoad, opSave, opCall, listWords, wordsOp, wordsList}
+use Rattle.definitions.specs.Operations.{Op, opLoad, opSave, opCall, opNeed, listWords, wordsOp, wordsList}
 use Rattle.definitions.specs.Answer.{answer}
 use Rattle.definitions.specs.Meaning.{Meaning, Commuting, put, unaryValue, binaryValue, value, perform, performAll}
 use Rattle.definitions.specs.Meaning.{isIn, assigned, orderly}
 use Rattle.definitions.specs.Run.{State, update, operate, runOps, run}
-use Rattle.definitions.specs.Claims.{AllWriteOnly, Below, listOf}
+use Rattle.definitions.specs.Claims.{WritesOnly, EachOp, Below, NeedsHold, listOf}
 use Rattle.definitions.specs.Demand.{RunsAsSheet, AcceptedRuns}
 use Rattle.definitions.proofs.Comparing.{and-both}
 use Rattle.definitions.proofs.Demand.{whole-list-agrees, accepted-runs}
@@ -99,20 +99,26 @@ sheet =
 -- its list, six words an operation
 unfoldable pub words : List ℕ
 words =
-    2 ∷ 0 ∷ 0 ∷ 0 ∷ 0 ∷ 131072  -- load r0 m0
+    12 ∷ 2 ∷ 0 ∷ 0 ∷ 0 ∷ 0  -- need 2
+    ∷ 2 ∷ 0 ∷ 0 ∷ 0 ∷ 0 ∷ 131072  -- load r0 m0
     ∷ 9 ∷ 1 ∷ 1 ∷ 0 ∷ 0 ∷ 131073  -- loadmath plus r1 r0 m1
     ∷ 3 ∷ 0 ∷ 0 ∷ 1 ∷ 0 ∷ 65549  -- save r1 s13
+    ∷ 12 ∷ 2 ∷ 0 ∷ 0 ∷ 0 ∷ 0  -- need 2
     ∷ 2 ∷ 0 ∷ 0 ∷ 0 ∷ 0 ∷ 131075  -- load r0 m3
     ∷ 9 ∷ 2 ∷ 1 ∷ 0 ∷ 0 ∷ 131074  -- loadmath minus r1 r0 m2
     ∷ 3 ∷ 0 ∷ 0 ∷ 1 ∷ 0 ∷ 65552  -- save r1 s16
+    ∷ 12 ∷ 2 ∷ 0 ∷ 0 ∷ 0 ∷ 0  -- need 2
     ∷ 2 ∷ 0 ∷ 0 ∷ 0 ∷ 0 ∷ 65549  -- load r0 s13
     ∷ 9 ∷ 3 ∷ 1 ∷ 0 ∷ 0 ∷ 65552  -- loadmath times r1 r0 s16
     ∷ 3 ∷ 0 ∷ 0 ∷ 1 ∷ 0 ∷ 65546  -- save r1 s10
+    ∷ 12 ∷ 1 ∷ 0 ∷ 0 ∷ 0 ∷ 0  -- need 1
     ∷ 2 ∷ 0 ∷ 0 ∷ 0 ∷ 0 ∷ 65546  -- load r0 s10
     ∷ 3 ∷ 0 ∷ 0 ∷ 0 ∷ 0 ∷ 65536  -- save r0 s0
+    ∷ 12 ∷ 1 ∷ 0 ∷ 0 ∷ 0 ∷ 0  -- need 1
     ∷ 2 ∷ 0 ∷ 0 ∷ 0 ∷ 0 ∷ 65546  -- load r0 s10
     ∷ 11 ∷ 1 ∷ 0 ∷ 1 ∷ 0 ∷ 0  -- call f1 1
     ∷ 3 ∷ 0 ∷ 0 ∷ 255 ∷ 0 ∷ 65555  -- save v s19
+    ∷ 12 ∷ 2 ∷ 0 ∷ 0 ∷ 0 ∷ 0  -- need 2
     ∷ 2 ∷ 0 ∷ 0 ∷ 0 ∷ 0 ∷ 65555  -- load r0 s19
     ∷ 10 ∷ 4 ∷ 1 ∷ 0 ∷ 0 ∷ 2  -- constmath divide r1 r0 c2
     ∷ 6 ∷ 12 ∷ 1 ∷ 1 ∷ 0 ∷ 0  -- uni round r1 r1
@@ -120,11 +126,13 @@ words =
     ∷ 6 ∷ 13 ∷ 0 ∷ 0 ∷ 0 ∷ 0  -- uni floor r0 r0
     ∷ 7 ∷ 2 ∷ 1 ∷ 1 ∷ 0 ∷ 0  -- bi minus r1 r1 r0
     ∷ 3 ∷ 0 ∷ 0 ∷ 1 ∷ 0 ∷ 65537  -- save r1 s1
+    ∷ 12 ∷ 2 ∷ 0 ∷ 0 ∷ 0 ∷ 0  -- need 2
     ∷ 2 ∷ 0 ∷ 1 ∷ 0 ∷ 0 ∷ 65537  -- load r1 s1
     ∷ 2 ∷ 0 ∷ 0 ∷ 0 ∷ 0 ∷ 131072  -- load r0 m0
     ∷ 5 ∷ 0 ∷ 1 ∷ 0 ∷ 0 ∷ 0  -- swap r1 r0
     ∷ 11 ∷ 2 ∷ 0 ∷ 2 ∷ 0 ∷ 0  -- call f2 2
     ∷ 3 ∷ 0 ∷ 0 ∷ 255 ∷ 0 ∷ 65558  -- save v s22
+    ∷ 12 ∷ 2 ∷ 0 ∷ 0 ∷ 0 ∷ 0  -- need 2
     ∷ 2 ∷ 0 ∷ 1 ∷ 0 ∷ 0 ∷ 65558  -- load r1 s22
     ∷ 2 ∷ 0 ∷ 0 ∷ 0 ∷ 0 ∷ 65536  -- load r0 s0
     ∷ 8 ∷ 0 ∷ 1 ∷ 1 ∷ 0 ∷ 196608  -- ifelse r1 r1 r0 p0
@@ -199,7 +207,7 @@ witness-demand = rw witness-list at (accepted-runs file workWords workWords witn
 
 -- the sources of the minus exchanged, or m1 loaded for m0: other numbers than 203 and 32
 pub wrong-list-differs :
-    (left (set (set words 117 0) 118 1) (Stack 1 ∷ []) ≡ 0 ∷ []) × (left (set words 5 131073) (Stack 0 ∷ []) ≡ 48 ∷ [])
+    (left (set (set words 153 0) 154 1) (Stack 1 ∷ []) ≡ 0 ∷ []) × (left (set words 11 131073) (Stack 0 ∷ []) ≡ 48 ∷ [])
 unfolding left words
 wrong-list-differs = (refl, refl)
 
@@ -212,11 +220,24 @@ unfolding left kept
 spoils-are-felt = refl
 
 -- a call may write a register above the first
-pub call-writes : AllWriteOnly (Below 1) (opCall 7 1 ∷ []) → ⊥
-unfolding AllWriteOnly
+pub call-writes : EachOp (WritesOnly (Below 1)) (opCall 7 1 ∷ []) → ⊥
+unfolding EachOp
 call-writes h =
     let any : (r : ℕ) → Below 1 r = h .0 in
     ⊎-elim (λ l. omega arith) (⊎-elim (λ e. omega arith) (λ e. omega arith)) (any 1)
+
+-- no list may begin without a record, write the register that a record's number is, or need more than the scratch count
+pub unrecorded-refused : NeedsHold 4 0 (opLoad 0 (Mem 0) ∷ []) → ⊥
+unfolding NeedsHold answerTo
+unrecorded-refused h = omega (arith, h .0)
+
+pub wider-refused : NeedsHold 4 0 (opNeed 1 ∷ opLoad 1 (Mem 0) ∷ []) → ⊥
+unfolding NeedsHold answerTo
+wider-refused h = ⊎-elim (λ l. omega arith) (⊎-elim (λ e. omega arith) (λ e. omega arith)) (h .3 .2 refl)
+
+pub unmet-refused : NeedsHold 4 0 (opNeed 5 ∷ []) → ⊥
+unfolding NeedsHold answerTo
+unmet-refused h = omega (arith, h .1)
 
 -- a place that is read and later assigned, one that its own statement reads, one that is assigned twice
 pub disorder-seen :
