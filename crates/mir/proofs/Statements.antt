@@ -2,7 +2,7 @@
 use mathlib.Core.Path.{_≡_, refl, sym, ap, ap₂, _∙_}
 use mathlib.Core.Bool.{Bool, true, false, cond}
 use mathlib.Core.List.{List, [], _∷_, _++_}
-use Prim.Native.Nat.{ℕ, _-_, _*_}
+use Prim.Native.Nat.{ℕ, _-_, _*_, _≤_}
 use native.Mathlib.Omega.{arith}
 use Rattle.limits.specs.Limits.{depthLimit, nodeLimit, opsPerNode}
 use Rattle.symbol.specs.declared.Loc.{Loc}
@@ -12,7 +12,7 @@ use Rattle.operation.specs.declared.One.the-variants.{Unary, Function1}
 use Rattle.operation.specs.declared.Two.the-variants.{Binary, Choice, Function2}
 use Rattle.definitions.specs.Tree.{Tree, variable, ershov}
 use Rattle.definitions.specs.Statement.{Statement, assign}
-use Rattle.definitions.specs.Operations.{Op, opLoad, opSave, Ret}
+use Rattle.definitions.specs.Operations.{Op, opLoad, opSave, opNeed, Ret}
 use Rattle.definitions.specs.Emit.{last, evaluate, statementOps}
 use Rattle.node.specs.declared.Node.{Node}
 use Rattle.node.specs.declared.Node.the-variants.{Const, Var, Unary as UnaryNode, Binary as BinaryNode}
@@ -24,12 +24,20 @@ use Rattle.ershov.specs.Number.{Near}
 use Rattle.ershov.proofs.Numbers.{near-seen}
 use Rattle.emitters.specs.Emitted.{Emitted}
 use Rattle.emitters.proofs.Emitting.{emitted-then, emitted-as}
-use Rattle.mir.specs.Lists.{RowFits, mostOps, StatementEmitted, RootEmitted, AssignEmitted, CallEmitted, RowEmitted}
+use Rattle.mir.specs.Lists.{RowFits, mostTreeOps, mostOps, StatementEmitted, RootEmitted, AssignEmitted, CallEmitted, RowEmitted}
 
 -- ---- a tree's value into a place
 
+-- the record of its need, then its operations
+pub tree-emitted : (h : Header) (t : Tree) {x m a next : ℕ} {out out₁ out₂ : List ℕ} → x ≡ ershov t →
+    m ≤ opsPerNode * nodeLimit → Emitted (opNeed x ∷ []) 1 0 a out out₁ →
+    Emitted (evaluate (h .fused) 0 t) m a next out₁ out₂ →
+    Emitted (opNeed (ershov t) ∷ evaluate (h .fused) 0 t) mostTreeOps 0 next out out₂
+tree-emitted h t e few need ops = rw (← e) (emitted-then {k = mostTreeOps} (omega arith) need ops)
+
+-- and the save
 pub assign-emitted : (h : Header) (p : Loc) (t : Tree) {x a next : ℕ} {out out₁ out₂ : List ℕ} → x ≡ ershov t →
-    Emitted (evaluate (h .fused) 0 t) (opsPerNode * nodeLimit) 0 a out out₁ →
+    Emitted (opNeed (ershov t) ∷ evaluate (h .fused) 0 t) mostTreeOps 0 a out out₁ →
     Emitted (opSave (x - 1) p ∷ []) 1 a next out₁ out₂ → StatementEmitted h (assign p t) 0 next out out₂
 unfolding statementOps
 assign-emitted h p t {x} e ops save =
@@ -37,18 +45,18 @@ assign-emitted h p t {x} e ops save =
     emitted-then {n = 1} (omega arith) ops (emitted-as (omega arith) (ap (λ (s : ℕ). opSave s p ∷ []) r) save)
 
 -- that of a temporary
-pub copy-emitted : (h : Header) (p : Loc) {q q′ : Loc} {a next : ℕ} {out out₁ out₂ : List ℕ} → q ≡ q′ →
-    Emitted (opLoad 0 q ∷ []) 1 0 a out out₁ → Emitted (opSave 0 p ∷ []) 1 a next out₁ out₂ →
-    StatementEmitted h (assign p (variable q′)) 0 next out out₂
+pub copy-emitted : (h : Header) (p : Loc) {q q′ : Loc} {a b next : ℕ} {out out₁ out₂ out₃ : List ℕ} → q ≡ q′ →
+    Emitted (opNeed 1 ∷ []) 1 0 a out out₁ → Emitted (opLoad 0 q ∷ []) 1 a b out₁ out₂ →
+    Emitted (opSave 0 p ∷ []) 1 b next out₂ out₃ → StatementEmitted h (assign p (variable q′)) 0 next out out₃
 unfolding statementOps evaluate ershov
-copy-emitted h p e load save = rw (← e) (emitted-then (omega arith) load save)
+copy-emitted h p e need load save = rw (← e) (emitted-then (omega arith) (emitted-then {k = 2} (omega arith) need load) save)
 
 -- ---- a call's value, which it leaves in Ret
 
 module _ (fused : Bool) (p : Loc) where
-  -- a tree's operations, and the save from the register of a call or of a value
+  -- a tree's need and operations, and the save from the register of a call or of a value
   abbrev savedOps : (isCall : Bool) → Tree → List Op
-  savedOps c t = evaluate fused 0 t ++ (opSave (cond c Ret (last 0 (ershov t))) p ∷ [])
+  savedOps c t = opNeed (ershov t) ∷ (evaluate fused 0 t ++ (opSave (cond c Ret (last 0 (ershov t))) p ∷ []))
 
   call-saves : (f : ℕ → Tree) (i : ℕ) (n : Node) →
       statementOps fused (callInto p (nodeTree f i n)) ≡ savedOps (isFunction n) (nodeTree f i n)

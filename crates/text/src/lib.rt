@@ -9,7 +9,7 @@ ghost use lib.ListN.{length};
 ghost use Rattle.limits.specs.Limits.{lineLimit};
 ghost use Rattle.symbol.specs.Place.{wordPlace};
 ghost use Rattle.operation.specs.Names.{unaryName, binaryName, spelled};
-ghost use Rattle.definitions.specs.Operations.{opCall, wordsOp};
+ghost use Rattle.definitions.specs.Operations.{opCall, opNeed, wordsOp};
 ghost use Rattle.definitions.specs.Text.{decimalBelow, decimal, registerText, placeText, constantText, opText};
 ghost use Rattle.text.specs.Line.{lineOf, Adds, Lent, Prints, lineText, lineFrom, countsText, refusedText};
 ghost use Rattle.text.specs.Line.{textOf, linesOf, answerOf, Writes, WritesAnswer};
@@ -171,6 +171,14 @@ fn put_call(l: Line, f: u32, n: u32) -> Line
     put_decimal(put(function, b" "), n)
 }
 
+// A record of need.
+fn put_need(l: Line, e: u32) -> Line
+    requires { ⌜ l .len ≤ 64 ⌝ }
+    ensures { λ r. ⌜ Adds l (opText (opNeed e)) 58 r ⌝ }
+{
+    put_decimal(put(l, b"need "), e)
+}
+
 // An operation by its six words: kind, code where there is one, destination, sources, place.
 fn put_op(l: Line, kind: u32, code: u32, d: u32, s1: u32, s2: u32, place: u32) -> Line
     requires { ⌜ l .len ≤ 64 ⌝ }
@@ -190,7 +198,8 @@ fn put_op(l: Line, kind: u32, code: u32, d: u32, s1: u32, s2: u32, place: u32) -
         ),
         9 => put_place(put_math(l, b"loadmath ", code, d, s1), place),
         10 => put_constant(put_math(l, b"constmath ", code, d, s1), place),
-        _ => put_call(l, code, s1),
+        11 => put_call(l, code, s1),
+        _ => put_need(l, code),
     }
 }
 

@@ -9,9 +9,9 @@ use Rattle.text.proofs.Lines.{adds-then, adds-within, adds-registers}
 use Rattle.text.proofs.put_op.Statement.{statement}
 use Rattle.text.proofs.put_op.Tie as tie
 
-returns-11 : tie.Need-returns-11
+returns-12 : tie.Need-returns-12
 unfolding wordsOp
-returns-11 c =
+returns-12 c =
     let r = c .before .match .rest in
     let q = r .0 .0 .0 .0 .0 in
     simp (
@@ -25,10 +25,11 @@ returns-11 c =
       ne-eqb _ _ (q .0 .0 .1),
       ne-eqb _ _ (q .0 .0 .0 .1),
       ne-eqb _ _ (q .0 .0 .0 .0 .1),
+      ne-eqb _ _ (q .0 .0 .0 .0 .0 .1),
     )
-    (c .put-call .ensures)
+    (c .put-need .ensures)
 
--- the arms in their order: const, load, save, move, swap, uni, bi, ifelse, loadmath, constmath, call
+-- the arms in their order: const, load, save, move, swap, uni, bi, ifelse, loadmath, constmath, call, need
 pub put-op-spec : {M : Type 1} → statement M
 unfolding bytes opText wordsOp
 put-op-spec =
@@ -42,7 +43,7 @@ put-op-spec =
     (λ c κs. search needs) (λ c. search needs) (λ c κs. search needs) (λ c κs. search needs)
     (λ c κs. search needs) (λ c κs. search needs) (λ c. search needs) (λ c κs. search needs)
     (λ c κs. search needs) (λ c. search needs) (λ c κs. search needs) (λ c κs. search needs)
-    (λ c κs. search needs)
+    (λ c κs. search needs) (λ c κs. search needs)
     (λ c. let kind = c .before .before in
     rw (kind .before .before .match .keys1) (adds-within 58 (omega arith)
     (adds-then (adds-then (kind .put .ensures) (c .before .put-register .ensures)) (c .put-constant .ensures))))
@@ -79,4 +80,5 @@ put-op-spec =
     (λ c. let math = c .before in
     rw (math .before .before .match .keys10) (adds-within 58 (omega arith)
     (adds-then (math .put-math3 .ensures) (c .put-constant2 .ensures))))
-    returns-11)
+    (λ c. rw (c .before .match .keys11) (c .put-call .ensures))
+    returns-12)
