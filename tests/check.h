@@ -8,6 +8,7 @@
 #include <string.h>
 
 enum { WORDS = 16384, FILE_MAX = 16384, NO_WORK = 1, NO_ROOM = 10 };
+enum { SAVE = 3, SWAP = 5, CALL = 11, NEED = 12, TEMP = 254, RET = 255 };
 
 /* The arguments of one call. */
 struct lent {
@@ -37,6 +38,25 @@ static inline int same(struct zubmanger_numbers a, struct zubmanger_numbers b)
     return a.number == b.number && a.ops == b.ops && a.temps == b.temps;
 }
 
+static inline int below(uint32_t reg, uint32_t need)
+{
+    return reg < need || reg == TEMP || reg == RET;
+}
+
+/* Whether each operation stands under a record of need and writes no scratch register at or above its number. */
+static inline int needs_hold(const uint32_t *op, uint32_t ops, uint32_t scratch)
+{
+    uint32_t need = 0;
+    for (; ops > 0; ops--, op += 6) {
+        if (op[0] == NEED)
+            need = op[1];
+        int writes = op[0] != SAVE && op[0] != CALL && op[0] != NEED;
+        if (need < 1 || need > scratch || (writes && !below(op[2], need)) || (op[0] == SWAP && !below(op[3], need)))
+            return 0;
+    }
+    return 1;
+}
+
 /* What is wrong after a call, whatever the sheet and the lent memory, or a null pointer. */
 static inline const char *wrong_after(struct lent l, struct zubmanger_numbers r)
 {
@@ -51,6 +71,8 @@ static inline const char *wrong_after(struct lent l, struct zubmanger_numbers r)
         return "work is not zero";
     if (!all(l.out, list, l.out_len, 0))
         return r.number > 0 ? "a refusal leaves words" : "not zero past the list";
+    if (r.number == 0 && !needs_hold(l.out, r.ops, l.file[0]))
+        return "a register that no record has";
     return NULL;
 }
 
