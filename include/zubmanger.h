@@ -5,8 +5,7 @@
 #include <stddef.h>
 #include <stdint.h>
 
-/* A list: number 0, its operations, records of need among them, and its temporaries. A refusal: its number, 1 to 10, and two
- * zeros. */
+/* A list: number 0, its operations (records counted) and its temporaries. A refusal: its number, 1 to 10, and two zeros. */
 struct zubmanger_numbers {
     uint32_t number;
     uint32_t ops;
@@ -20,8 +19,8 @@ struct zubmanger_numbers {
  * out, out_len:   words lent for the list, 6 an operation, or the answer is refusal 10.
  *                 After a list the words past it are 0; after a refusal all are 0.
  *
- * Before each statement of the list stands a record of need: kind 12, and in the next word how many scratch registers, from
- * register 0 on, the operations up to the next record write. What a call itself spoils is not counted.
+ * Before each statement of the list stands a record of need: kind 12, then a number n. Up to the next record no operation writes
+ * a scratch register but 0 to n - 1; what a call itself spoils is not counted.
  *
  * The lengths count bytes of file and 32-bit words of work and out. The three must not overlap, and none may be a
  * null pointer, even where its length is 0. Nothing is kept between calls.
