@@ -1,4 +1,4 @@
-"""Sheets for every refusal, 1 to 10, each beside its nearest accepted neighbours.
+"""Sheets for every refusal of document 01, 1 to 10, each beside its nearest accepted neighbours.
 
 A case is (title, file, expected[, work words, output words]); expected is a refusal's number, or 0 for accepted.
 """
@@ -48,9 +48,9 @@ def header_fields():
         yield f"3: scratch count {scratch}", sheet(ONE, scratch=scratch), 3
     for scratch in (2, 32):
         yield f"3: scratch count {scratch} is in range", sheet(ONE, scratch=scratch), 0
-    for flags in (4, 5, 7, 8, 16, 32, 64, 128, 252, 255):
+    for flags in (8, 9, 15, 16, 32, 64, 128, 248, 255):
         yield f"3: flags {flags}", join([statement(*ONE)], flags=flags), 3
-    for flags in (0, 1, 2, 3):
+    for flags in range(8):
         yield f"3: flags {flags} are known", join([statement(*ONE)], flags=flags), 0
     for step in (0, 9, 255):
         yield f"3: step {step}", sheet(ONE, step=step), 3
@@ -117,7 +117,7 @@ def unknown_bytes():
         yield f"5: destination of kind {kind}", sheet(bytes([kind, 0, 0]) + b"\x01\x00\x00"), 5
     for kind in (1, 2):
         yield f"5: destination of kind {kind} is good", sheet(bytes([kind, 0, 0]) + b"\x01\x00\x00"), 0
-    for tag in (0, 8, 9, 128, 255):
+    for tag in (0, 10, 128, 255):
         yield f"5: tag {tag}", sheet(("s0", bytes([tag, 1]) + b"\x01\x00\x00" * 2)), 5
     for code in (0, 22, 255):
         yield f"5: unary code {code}", sheet(("s0", bytes([3, code, 1, 0, 0]))), 5
@@ -219,7 +219,7 @@ def stack_index():
 
 
 def byte_order():
-    high, bad = "s10", b"\x08"
+    high, bad = "s10", b"\x0a"
     yield "7 then 5: destination, then tag", sheet((high, bad)), 7
     yield "5 then 7: parameter destination, then its index", sheet(b"\x03\xff\xff\x01\x00\x00"), 5
     yield "5 then 7: index cut off after its first byte", sheet(b"\x01\xff"), 5

@@ -5,8 +5,8 @@ different values but for rare chance, so a wrong operation shows.
 """
 from sheet_model import (
     BI, BINARY, BINARY_TAG, CALL, CHOICE_TAG, COMMUTING, CONST, CONST_TAG, CONSTMATH,
-    IFELSE, LEFT, LOAD, LOADMATH, MOVE, NEED, RET, RIGHT, SAVE, SWAP, TEMP, TEMPORARY, UNARY, UNARY_NAMES, UNARY_TAG,
-    UNI, VAR_TAG, Assign, Emitter, Refused, check_calls, read_sheet, trimmed_sheet)
+    IFELSE, LEFT, LOAD, LOADMATH, MODULAR_TAG, MOVE, NEED, POWER_TAG, RET, RIGHT, SAVE, SWAP, TEMP, TEMPORARY, UNARY,
+    UNARY_NAMES, UNARY_TAG, UNI, VAR_TAG, Assign, Emitter, Refused, check_calls, power_steps, read_sheet, trimmed_sheet)
 
 SIZE = 2147483647
 
@@ -53,6 +53,31 @@ class Meaning:
             x, y = y, x
         return self.free(2, code, x, y)
 
+    def product(self, x, y, modulus):
+        raised = self.binary(BINARY["times"], x, y)
+        return raised if modulus is None else self.binary(BINARY["rem"], raised, modulus)
+
+    def positive_power(self, power, x, modulus=None):
+        """The digits above the lowest 1 take x and its squares in turn; each zero below it squares the result."""
+        digits, zeros = power_steps(power)
+        raised = square = x
+        for multiplied in digits:
+            square = self.product(square, square, modulus)
+            raised = self.product(raised, square, modulus) if multiplied else raised
+        for _ in range(zeros):
+            raised = self.product(raised, raised, modulus)
+        return raised
+
+    def power(self, power, x, stable=False, modulus=None):
+        """T-02's expansions: x / x, products, and a reciprocal before or after them."""
+        if power == 0:
+            return self.binary(BINARY["divide"], x, x)
+        if power > 0:
+            return self.positive_power(power, x, modulus)
+        if stable and modulus is None:
+            return self.positive_power(-power, self.unary(UNARY["recip"], x))
+        return self.unary(UNARY["recip"], self.positive_power(-power, x))
+
     def choice(self, condition, true, false):
         return self.free(3, condition, true, false)
 
@@ -60,25 +85,29 @@ class Meaning:
         return self.free(3 + len(arguments), code, *arguments)
 
 
-def value(tree, memory, meaning, word):
-    """The tree's value in a memory; `word` turns a place into the memory's index."""
-    sides = [value(side, memory, meaning, word) for side in tree.sides]
+def value(tree, memory, meaning, sheet):
+    """The tree's value in a memory; the sheet turns a place into the memory's index and says how negative powers go."""
+    sides = [value(side, memory, meaning, sheet) for side in tree.sides]
     if tree.tag == CONST_TAG:
         return meaning.constant(tree.code)
     if tree.tag == VAR_TAG:
-        return memory[word(tree.code)]
+        return memory[sheet.word(tree.code)]
     if tree.tag == UNARY_TAG:
         return meaning.unary(tree.code, *sides)
     if tree.tag == BINARY_TAG:
         return meaning.binary(tree.code, *sides)
     if tree.tag == CHOICE_TAG:
-        return meaning.choice(memory[word(tree.code)], *sides)
+        return meaning.choice(memory[sheet.word(tree.code)], *sides)
+    if tree.tag == POWER_TAG:
+        return meaning.power(tree.code, *sides, stable=sheet.stable)
+    if tree.tag == MODULAR_TAG:
+        return meaning.power(tree.code, sides[0], modulus=sides[1])
     return meaning.function(tree.code, *sides)
 
 
 def run_sheet(sheet, memory, meaning):
     for place, tree in sheet.statements:
-        memory[sheet.word(place)] = value(tree, memory, meaning, sheet.word)
+        memory[sheet.word(place)] = value(tree, memory, meaning, sheet)
 
 
 def result_of(op, memory, registers, meaning):
@@ -145,7 +174,7 @@ def words_of(operations):
 def check_assignment(assign, operations, sheet, meaning, seed):
     """The first half of demand 3, for one trimmed assignment run from a random memory and registers."""
     memory, registers, last = Cells(seed, 1), Cells(seed, 2), assign.tree.ershov - 1
-    expected = value(assign.tree, memory, meaning, sheet.word)
+    expected = value(assign.tree, memory, meaning, sheet)
     left = run_list(words_of(operations), memory, registers, meaning, seed)
     assert all(number <= last for number in left if number < sheet.scratch), "a register above e - 1"
     assert all(number < sheet.scratch or number in (254, 255) for number in left), "no such register"

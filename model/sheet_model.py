@@ -1,4 +1,4 @@
-"""Document 01 as a program, with T-01 of document 02: from the bytes of a spacing sheet to its answer and its printed text.
+"""Document 01 as a program, with T-01 and T-02 of document 02: from the bytes of a spacing sheet to its answer and its printed text.
 
 Written from the words of the documents, in their order, to be read beside them. Nothing here is fast or clever.
 A place is (kind, index); the n-th temporary is (TEMPORARY, n) until its stack index is needed.
@@ -40,12 +40,14 @@ class Refused(Exception):
 
 # ---- Trees -------------------------------------------------------------------------------------------------
 
-CONST_TAG, VAR_TAG, UNARY_TAG, BINARY_TAG, CHOICE_TAG, CALL1_TAG, CALL2_TAG = range(1, 8)
-ARITY = {CONST_TAG: 0, VAR_TAG: 0, UNARY_TAG: 1, BINARY_TAG: 2, CHOICE_TAG: 2, CALL1_TAG: 1, CALL2_TAG: 2}
+CONST_TAG, VAR_TAG, UNARY_TAG, BINARY_TAG, CHOICE_TAG, CALL1_TAG, CALL2_TAG, POWER_TAG, MODULAR_TAG = range(1, 10)
+ARITY = {CONST_TAG: 0, VAR_TAG: 0, UNARY_TAG: 1, BINARY_TAG: 2, CHOICE_TAG: 2, CALL1_TAG: 1, CALL2_TAG: 2,
+         POWER_TAG: 1, MODULAR_TAG: 2}  # a power under a modulus has its base on the left and the modulus on the right
+LOWEST_POWER = -2**31
 
 
 class Tree:
-    """A node; `code` is a constant's index, a variable's or condition's place, an operation or a function."""
+    """A node; `code` is a constant's index, a variable's or condition's place, an operation, a function or a power."""
     __slots__ = ("tag", "code", "sides", "ershov", "weight", "depth", "form")
 
     def __init__(self, tag, code, *sides):
@@ -83,7 +85,7 @@ def temporary(number):
     return Tree(VAR_TAG, (TEMPORARY, number))
 
 
-# ---- The sheet: checks 2 to 7 ------------------------------------------------------------------------------
+# ---- The sheet: checks 2 to 7, and 11 ------------------------------------------------------------------------------
 
 class Assign(NamedTuple):
     place: tuple
@@ -101,6 +103,7 @@ class Sheet:
     scratch: int
     sharing: bool
     fused: bool
+    stable: bool
     step: int
     first: int
     statements: list
@@ -136,6 +139,13 @@ class Reader:
             raise Refused(7)
         return (kind, index)
 
+    def power(self, tag):
+        """Four bytes in two's complement; the lowest is 11 under a modulus, met at its last byte."""
+        power = int.from_bytes([self.byte() for _ in range(4)], "little", signed=True)
+        if tag == MODULAR_TAG and power == LOWEST_POWER:
+            raise Refused(11)
+        return power
+
     def code(self, tag):
         if tag == CONST_TAG:
             return self.index()
@@ -145,6 +155,8 @@ class Reader:
             return self.byte(UNARY.values())
         if tag == BINARY_TAG:
             return self.byte(BINARY.values())
+        if tag in (POWER_TAG, MODULAR_TAG):
+            return self.power(tag)
         return self.byte()
 
     def tree(self, depth=1):
@@ -187,12 +199,12 @@ def read_sheet(file):
         raise Refused(2)
     scratch, flags, step, zero = file[:4]
     count, first = number_at(file, 4), number_at(file, 6)
-    if not (2 <= scratch <= 32 and flags <= 3 and 1 <= step <= 8 and zero == 0 and count <= 256):
+    if not (2 <= scratch <= 32 and flags <= 7 and 1 <= step <= 8 and zero == 0 and count <= 256):
         raise Refused(3)
     parts = read_pairs(file, count)
     reader = Reader(first)
     statements = [reader.statement(part) for part in parts]
-    return Sheet(scratch, bool(flags & 1), bool(flags & 2), step, first, statements)
+    return Sheet(scratch, bool(flags & 1), bool(flags & 2), bool(flags & 4), step, first, statements)
 
 
 # ---- eliminate: common subexpressions ----------------------------------------------------------------------
@@ -287,6 +299,8 @@ class Trimmer:
             left = self.store(sides[0])
             right = sides[1] if self.variant.one_side else self.store(sides[1])
             sides = (left, right)
+        elif tree.tag == MODULAR_TAG and sides[1].ershov > sides[0].ershov:
+            sides = (sides[0], self.store(sides[1]))  # the base would end where such a modulus lies
         return Tree(tree.tag, tree.code, *sides)
 
     def statement(self, statement):
@@ -352,6 +366,40 @@ def binary_operations(code, to, x, y):
     return [operation(BI, code, to, x, y)]
 
 
+def power_steps(power):
+    """A positive power by its binary digits: those above the lowest 1, from low to high, and the zeros below it."""
+    digits = f"{power:b}"[::-1]
+    zeros = digits.index("1")
+    return [digit == "1" for digit in digits[zeros + 1:]], zeros
+
+
+def positive_power(power, x, modulus=None):
+    """Register x becomes its power, through Temp; under a modulus the remainder follows every product."""
+    def product(to, left, right):
+        reduced = [] if modulus is None else binary_operations(BINARY["rem"], to, to, modulus)
+        return [bi("times", to, left, right), *reduced]
+
+    digits, zeros = power_steps(power)
+    operations, square = [operation(MOVE, 0, x, x)], x
+    for multiplied in digits:
+        operations += product(TEMP, square, square)
+        square = TEMP
+        if multiplied:
+            operations += product(x, x, TEMP)
+    return operations + product(x, x, x) * zeros
+
+
+def power_operations(power, x, stable=False, modulus=None):
+    """Register x becomes its power; only a positive one is reduced by the modulus, only a bare one minds `stable`."""
+    if power == 0:
+        return [bi("divide", x, x, x)]
+    if power > 0:
+        return positive_power(power, x, modulus)
+    reciprocal = [operation(UNI, UNARY["recip"], x, x)]
+    raised = positive_power(-power, x)
+    return reciprocal + raised if stable and modulus is None else raised + reciprocal
+
+
 def argument_moves(x, y):
     """The two arguments, in registers x and y, go to Left and Right."""
     if (x, y) == (1, 0):
@@ -405,6 +453,9 @@ class Emitter:
         before, x, y = self.sides(*tree.sides, base)
         if tree.tag == CHOICE_TAG:
             return before + [operation(IFELSE, 0, to, x, y, self.sheet.word(tree.code))]
+        if tree.tag == MODULAR_TAG:
+            assert to == x != y, "trimming keeps the modulus clear of the base's register"
+            return before + power_operations(tree.code, x, modulus=y)
         return before + binary_operations(tree.code, to, x, y)
 
     def tree(self, tree, base):
@@ -416,6 +467,9 @@ class Emitter:
         if tree.tag == UNARY_TAG:
             x = base + tree.ershov - 1
             return self.tree(tree.sides[0], base) + unary_operations(tree.code, x)
+        if tree.tag == POWER_TAG:
+            x = base + tree.ershov - 1
+            return self.tree(tree.sides[0], base) + power_operations(tree.code, x, self.sheet.stable)
         return self.binary(tree, base)
 
     def call(self, call):
