@@ -3,7 +3,7 @@
 use std::cell::RefCell;
 use std::rc::Rc;
 
-use crate::differences::Classes;
+use crate::differences::{Classes, Worked};
 use crate::rust::builder::Builder;
 use crate::rust::config::Config;
 use crate::rust::mir::{ArithOp, BinOp, Instruction, Mir, UniOp};
@@ -17,7 +17,7 @@ use crate::sheet::{Place, Sheet, Tree, MEMORY, STACK};
 use crate::text::{function_number, kind, Listing, Operation, Site, BINARY, RET, TEMP, UNARY};
 
 pub enum Answer {
-    /// A sheet that checks 2 to 7 refuse.
+    /// A sheet that checks 2 to 7, or 11, refuse.
     Unreadable,
     /// The Rust returned an error, after emitting so many operations.
     Error(usize),
@@ -28,7 +28,7 @@ pub enum Answer {
 pub fn compile_bytes(bytes: &[u8]) -> Answer {
     match Sheet::read(bytes) {
         Err(_) => Answer::Unreadable,
-        Ok(sheet) => match compile_sheet(&sheet, None) {
+        Ok(sheet) => match compile_sheet(&sheet, Worked::NONE) {
             Err(emitted) => Answer::Error(emitted),
             Ok(compiled) => Answer::List(compiled.listing),
         },
@@ -41,19 +41,18 @@ pub struct Compiled {
     pub needs: Vec<u32>,
 }
 
-/// What the Rust makes of a sheet; where it returns an error, how many operations it had emitted. With classes,
-/// calls are named by them.
-pub fn compile_sheet(sheet: &Sheet, classes: Option<Classes>) -> Result<Compiled, usize> {
-    let mut run = Run::new(sheet, classes);
-    if !run.compile_mir() {
-        return Err(run.mir.code.records.len());
+/// What the Rust makes of a sheet; where it returns an error, how many operations it had emitted. Of the differences
+/// that are worked in, it sees those of calls and moduli.
+pub fn compile_sheet(sheet: &Sheet, worked: Worked) -> Result<Compiled, usize> {
+    let mut run = Run::new(sheet, worked);
+    let done = run.compile_mir();
+    let operations = run.operations();
+    if !done {
+        return Err(operations.len());
     }
     let block = run.builder.block();
     let needs = block.stmts.iter().map(ershov_number).collect();
-    let listing = Listing {
-        operations: run.mir.code.records.iter().map(operation).collect(),
-        temporaries: block.num_tmp as u32,
-    };
+    let listing = Listing { operations, temporaries: block.num_tmp as u32 };
     Ok(Compiled { listing, needs })
 }
 
@@ -73,14 +72,17 @@ pub struct Run {
 }
 
 impl Run {
-    pub fn new(sheet: &Sheet, classes: Option<Classes>) -> Run {
+    pub fn new(sheet: &Sheet, worked: Worked) -> Run {
         let config = Config {
             sharing: sheet.sharing(),
             fused: sheet.fused(),
+            stable: sheet.stable(),
             scratch: sheet.scratch,
+            stores_moduli: worked.moduli,
             df: None,
         };
         let mut builder = Builder::new(config.clone());
+        let classes = worked.calls.then(Classes::default);
         let mut nodes = Nodes { symbols: builder.symbol_table().clone(), classes };
         for statement in &sheet.statements {
             let place = nodes.variable(statement.place);
@@ -97,6 +99,12 @@ impl Run {
     /// The Rust's own function and nothing else; false where it returns an error.
     pub fn compile_mir(&mut self) -> bool {
         self.builder.compile_mir(&mut self.mir).is_ok()
+    }
+
+    /// What was emitted, without the nop before a power's move (T-02 drops it).
+    fn operations(&self) -> Vec<Operation> {
+        let nop = |record: &&Record| matches!(record, Record::Emitted(Instruction::Nop));
+        self.mir.code.records.iter().filter(|record| !nop(record)).map(operation).collect()
     }
 }
 
@@ -143,6 +151,11 @@ impl Nodes {
             Tree::Function2(function, left, right) => {
                 let function = self.function(*function, tree);
                 self.binary(function, left, right)
+            }
+            Tree::Power(power, arg) => Node::create_powi(self.node(arg), *power),
+            Tree::ModularPower(power, base, modulus) => {
+                let (base, modulus) = (self.node(base), self.node(modulus));
+                Node::create_modular_powi(base, modulus, *power)
             }
         }
     }

@@ -1,31 +1,57 @@
-//! The three differences of document 01 and the records of T-01 worked into the Rust's answer, without changing the Rust.
+//! The differences of docs/DIFFERENCES.md and the records of T-01 worked into the Rust's answer.
 
 use std::collections::HashMap;
 
 use crate::compile::{compile_sheet, Compiled};
 use crate::sheet::{Sheet, Tree};
-use crate::text::{kind, Listing};
+use crate::text::{kind, Listing, Operation, TEMP, TIMES};
 
 /// What the program lends; the work is also what check 1 asks for.
 pub const WORK_WORDS: usize = 16_384;
 pub const OUTPUT_WORDS: usize = 16_384;
 
-/// What document 01 asks for a file at full lending: the list, or the number of the refusal.
+/// Which differences are worked in. Calls and moduli are seen to while the Rust runs, the others in its list.
+#[derive(Clone, Copy, PartialEq, Eq)]
+pub struct Worked {
+    /// Difference 1: calls are merged where their trees are the same, and nowhere else.
+    pub calls: bool,
+    /// Difference 2: Left is moved first.
+    pub moves: bool,
+    /// Difference 4: a modulus that needs more registers than its base is stored.
+    pub moduli: bool,
+    /// Difference 5: the lowest power is 31 squarings.
+    pub lowest: bool,
+}
+
+impl Worked {
+    pub const NONE: Worked = Worked { calls: false, moves: false, moduli: false, lowest: false };
+    pub const ALL: Worked = Worked { calls: true, moves: true, moduli: true, lowest: true };
+}
+
+/// What the documents ask for a file at full lending: the list, or the number of the refusal.
 pub fn expected(bytes: &[u8]) -> Result<Listing, u8> {
     let listed = listed(bytes);
     at_lent(&listed, WORK_WORDS, OUTPUT_WORDS)?;
     listed
 }
 
-/// What document 01 asks for a file by checks 2 to 9, which do not look at what was lent.
+/// What the documents ask for a file by checks 2 to 9 and 11, which do not look at what was lent.
 pub fn listed(bytes: &[u8]) -> Result<Listing, u8> {
-    let sheet = Sheet::read(bytes)?;
-    let Compiled { mut listing, needs } =
-        compile_sheet(&sheet, Some(Classes::default())).map_err(|_| 8)?;
-    if past_last_index(&sheet, &listing) {
+    listed_with(&Sheet::read(bytes)?, Worked::ALL)
+}
+
+/// The Rust's answer to a sheet by checks 8 and 9, with some differences worked in, and the records.
+pub fn listed_with(sheet: &Sheet, worked: Worked) -> Result<Listing, u8> {
+    let Compiled { mut listing, needs } = compile_sheet(sheet, worked).map_err(|_| 8)?;
+    if past_last_index(sheet, &listing) {
         return Err(9);
     }
-    move_left_first(&mut listing);
+    if worked.moves {
+        move_left_first(&mut listing);
+    }
+    if worked.lowest {
+        drop_shifted_power(&mut listing);
+    }
     Ok(listing.with_needs(&needs))
 }
 
@@ -78,7 +104,7 @@ pub fn commutes(tree: &Tree) -> bool {
 }
 
 /// Difference 2: the Rust's `move r1 ry`, `move r0 r1` before a call of two, exchanged.
-pub fn move_left_first(listing: &mut Listing) {
+fn move_left_first(listing: &mut Listing) {
     for at in 2..listing.operations.len() {
         let [right, left, call] = [at - 2, at - 1, at].map(|k| listing.operations[k]);
         let calls_two = call.kind == kind::CALL && call.s1 == 2;
@@ -88,4 +114,38 @@ pub fn move_left_first(listing: &mut Listing) {
             listing.operations.swap(at - 2, at - 1);
         }
     }
+}
+
+/// The digits that the Rust finds in 2^31 shifted by 32: all 32 of it.
+const SHIFTED: usize = 32;
+
+/// Difference 5: the squares in Temp and the product that the Rust puts before the 31 squarings of the lowest power.
+/// No other power has so many squares.
+fn drop_shifted_power(listing: &mut Listing) {
+    let mut kept = Vec::with_capacity(listing.operations.len());
+    let mut rest = &listing.operations[..];
+    while let Some(first) = rest.first() {
+        if is_shifted(rest) {
+            rest = &rest[SHIFTED + 1..];
+        } else {
+            kept.push(*first);
+            rest = &rest[1..];
+        }
+    }
+    listing.operations = kept;
+}
+
+/// Whether operations begin with `times t d d`, `times t t t` 31 times, `times d d t`.
+fn is_shifted(operations: &[Operation]) -> bool {
+    if operations.len() <= SHIFTED {
+        return false;
+    }
+    let power = operations[0].s1;
+    let squares = operations[1..SHIFTED].iter().all(|one| *one == times(TEMP, TEMP, TEMP));
+    let begins = operations[0] == times(TEMP, power, power);
+    begins && squares && operations[SHIFTED] == times(power, power, TEMP)
+}
+
+fn times(destination: u32, s1: u32, s2: u32) -> Operation {
+    Operation { kind: kind::BI, code: TIMES, destination, s1, s2, ..Operation::default() }
 }

@@ -284,25 +284,15 @@ fn commute(random: &mut Random, tree: &mut Tree) {
     if commutes(tree) && random.percent(50) {
         exchange(tree);
     }
-    match tree {
-        Tree::Constant(_) | Tree::Variable(_) => {}
-        Tree::Unary(_, arg) | Tree::Function1(_, arg) => commute(random, arg),
-        Tree::Binary(_, left, right)
-        | Tree::Choice(_, left, right)
-        | Tree::Function2(_, left, right) => {
-            commute(random, left);
-            commute(random, right);
-        }
+    for side in tree.sides_mut() {
+        commute(random, side);
     }
 }
 
 /// Exchanges a node's sides, whether or not its operation commutes.
 fn exchange(tree: &mut Tree) {
-    if let Tree::Binary(_, left, right)
-    | Tree::Choice(_, left, right)
-    | Tree::Function2(_, left, right) = tree
-    {
-        std::mem::swap(left, right);
+    if let [left, right] = &mut tree.sides_mut()[..] {
+        std::mem::swap(*left, *right);
     }
 }
 
@@ -314,14 +304,7 @@ pub fn at_node(tree: &mut Tree, at: &mut usize, act: &mut dyn FnMut(&mut Tree)) 
         return;
     }
     *at -= 1;
-    match tree {
-        Tree::Constant(_) | Tree::Variable(_) => {}
-        Tree::Unary(_, arg) | Tree::Function1(_, arg) => at_node(arg, at, act),
-        Tree::Binary(_, left, right)
-        | Tree::Choice(_, left, right)
-        | Tree::Function2(_, left, right) => {
-            at_node(left, at, act);
-            at_node(right, at, act);
-        }
+    for side in tree.sides_mut() {
+        at_node(side, at, act);
     }
 }

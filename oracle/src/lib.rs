@@ -1,5 +1,6 @@
 //! The oracle as a library: sheets to lists through the Rust, and random sheets.
 
+pub mod class;
 pub mod compile;
 pub mod damage;
 pub mod differences;

@@ -1,13 +1,14 @@
-//! The program: compile, expect and generate.
+//! The program: compile, expect, explain and generate.
 
 use std::io::{self, BufRead, BufWriter, Write};
 use std::process::ExitCode;
 
+use oracle::class::named;
 use oracle::compile::{compile_bytes, Answer};
 use oracle::differences::expected;
 use oracle::generate::{generate, Kind};
 
-const USAGE: &str = "usage: oracle compile | oracle expect
+const USAGE: &str = "usage: oracle compile | oracle expect | oracle explain
        oracle generate SEED COUNT [valid|small|large|damaged|hostile]";
 
 fn main() -> ExitCode {
@@ -16,6 +17,7 @@ fn main() -> ExitCode {
     let done = match words[..] {
         ["compile"] => answer_lines(compile_text),
         ["expect"] => answer_lines(expect_text),
+        ["explain"] => answer_lines(|bytes| format!("{}\n", named(bytes))),
         ["generate", seed, count] => generate_lines(seed, count, "valid"),
         ["generate", seed, count, kind] => generate_lines(seed, count, kind),
         _ => Err(io::Error::other(USAGE)),

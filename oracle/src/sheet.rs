@@ -1,4 +1,4 @@
-//! The sheet: its bytes to statements and back. A refusal is document 01's number 2 to 7.
+//! The sheet: its bytes to statements and back. A refusal is document 01's number 2 to 7, or T-02's 11.
 
 #[derive(Clone, Copy, Debug, PartialEq, Eq, Hash)]
 pub struct Place {
@@ -20,6 +20,9 @@ pub enum Tree {
     Choice(Place, Box<Tree>, Box<Tree>),
     Function1(u8, Box<Tree>),
     Function2(u8, Box<Tree>, Box<Tree>),
+    Power(i32, Box<Tree>),
+    /// Power, base, modulus.
+    ModularPower(i32, Box<Tree>, Box<Tree>),
 }
 
 #[derive(Clone, Debug)]
@@ -42,6 +45,8 @@ pub const DEPTH_LIMIT: usize = 64;
 pub const NODE_LIMIT: usize = 1_024;
 pub const STATEMENT_LIMIT: usize = 256;
 const HEADER: usize = 8;
+/// All flags set.
+pub const FLAGS: u8 = 7;
 
 impl Sheet {
     pub fn sharing(&self) -> bool {
@@ -52,14 +57,18 @@ impl Sheet {
         self.flags & 2 != 0
     }
 
-    /// Checks 2 to 7, down the table.
+    pub fn stable(&self) -> bool {
+        self.flags & 4 != 0
+    }
+
+    /// Checks 2 to 7 and 11, down the table.
     pub fn read(bytes: &[u8]) -> Result<Sheet, u8> {
         if bytes.len() < HEADER || bytes.len() > FILE_LIMIT {
             return Err(2);
         }
         let (scratch, flags, step) = (bytes[0], bytes[1], bytes[2]);
         let count = number(bytes, 4) as usize;
-        let ranges = (2..=32).contains(&scratch) && flags <= 3 && (1..=8).contains(&step);
+        let ranges = (2..=32).contains(&scratch) && flags <= FLAGS && (1..=8).contains(&step);
         if !ranges || bytes[3] != 0 || count > STATEMENT_LIMIT {
             return Err(3);
         }
@@ -98,6 +107,11 @@ impl Sheet {
 
     pub fn nodes(&self) -> usize {
         self.statements.iter().map(|statement| statement.tree.weight()).sum()
+    }
+
+    /// How many of its nodes are such.
+    pub fn count(&self, is: fn(&Tree) -> bool) -> usize {
+        self.statements.iter().map(|statement| statement.tree.count(is)).sum()
     }
 }
 
@@ -150,6 +164,18 @@ impl Reader<'_> {
         Ok(u16::from_le_bytes([self.byte()?, self.byte()?]))
     }
 
+    fn power(&mut self) -> Result<i32, u8> {
+        Ok(i32::from_le_bytes([self.byte()?, self.byte()?, self.byte()?, self.byte()?]))
+    }
+
+    /// The lowest power has no size of its own sign: under a modulus it is refused at its last byte.
+    fn modular_power(&mut self) -> Result<i32, u8> {
+        match self.power()? {
+            i32::MIN => Err(11),
+            power => Ok(power),
+        }
+    }
+
     fn place(&mut self, kinds: u8) -> Result<Place, u8> {
         let kind = self.byte_up_to(kinds)?;
         let index = self.index()?;
@@ -169,7 +195,7 @@ impl Reader<'_> {
     }
 
     fn tree(&mut self, depth: usize) -> Result<Tree, u8> {
-        let tag = self.byte_up_to(7)?;
+        let tag = self.byte_up_to(9)?;
         self.nodes += 1;
         if depth > DEPTH_LIMIT || self.nodes > NODE_LIMIT {
             return Err(6);
@@ -181,7 +207,9 @@ impl Reader<'_> {
             4 => Tree::Binary(self.byte_up_to(15)?, self.side(depth)?, self.side(depth)?),
             5 => Tree::Choice(self.place(PARAMETER)?, self.side(depth)?, self.side(depth)?),
             6 => Tree::Function1(self.byte()?, self.side(depth)?),
-            _ => Tree::Function2(self.byte()?, self.side(depth)?, self.side(depth)?),
+            7 => Tree::Function2(self.byte()?, self.side(depth)?, self.side(depth)?),
+            8 => Tree::Power(self.power()?, self.side(depth)?),
+            _ => Tree::ModularPower(self.modular_power()?, self.side(depth)?, self.side(depth)?),
         })
     }
 
@@ -201,10 +229,22 @@ impl Tree {
     pub fn sides(&self) -> Vec<&Tree> {
         match self {
             Tree::Constant(_) | Tree::Variable(_) => vec![],
-            Tree::Unary(_, arg) | Tree::Function1(_, arg) => vec![arg],
+            Tree::Unary(_, arg) | Tree::Function1(_, arg) | Tree::Power(_, arg) => vec![arg],
             Tree::Binary(_, left, right)
             | Tree::Choice(_, left, right)
-            | Tree::Function2(_, left, right) => vec![left, right],
+            | Tree::Function2(_, left, right)
+            | Tree::ModularPower(_, left, right) => vec![left, right],
+        }
+    }
+
+    pub fn sides_mut(&mut self) -> Vec<&mut Tree> {
+        match self {
+            Tree::Constant(_) | Tree::Variable(_) => vec![],
+            Tree::Unary(_, arg) | Tree::Function1(_, arg) | Tree::Power(_, arg) => vec![arg],
+            Tree::Binary(_, left, right)
+            | Tree::Choice(_, left, right)
+            | Tree::Function2(_, left, right)
+            | Tree::ModularPower(_, left, right) => vec![left, right],
         }
     }
 
@@ -216,9 +256,13 @@ impl Tree {
         1 + self.sides().iter().map(|side| side.depth()).max().unwrap_or(0)
     }
 
-    pub fn calls_of_two(&self) -> usize {
-        let here = usize::from(matches!(self, Tree::Function2(..)));
-        here + self.sides().iter().map(|side| side.calls_of_two()).sum::<usize>()
+    /// How many of its nodes are such.
+    pub fn count(&self, is: fn(&Tree) -> bool) -> usize {
+        usize::from(is(self)) + self.sides().iter().map(|side| side.count(is)).sum::<usize>()
+    }
+
+    pub fn is_power(&self) -> bool {
+        matches!(self, Tree::Power(..) | Tree::ModularPower(..))
     }
 
     /// The node's own bytes, without those of its sides.
@@ -240,6 +284,14 @@ impl Tree {
             }
             Tree::Function1(function, _) => out.extend([6, *function]),
             Tree::Function2(function, _, _) => out.extend([7, *function]),
+            Tree::Power(power, _) => {
+                out.push(8);
+                out.extend(power.to_le_bytes());
+            }
+            Tree::ModularPower(power, _, _) => {
+                out.push(9);
+                out.extend(power.to_le_bytes());
+            }
         }
     }
 

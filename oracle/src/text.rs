@@ -33,6 +33,9 @@ pub const BINARY: [&str; 15] = [
     "xor", "complex",
 ];
 
+/// The code of times.
+pub const TIMES: u32 = 3;
+
 pub const TEMP: u32 = 254;
 pub const RET: u32 = 255;
 

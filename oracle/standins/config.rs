@@ -18,7 +18,10 @@ pub struct Defined {
 pub struct Config {
     pub sharing: bool,
     pub fused: bool,
+    pub stable: bool,
     pub scratch: u8,
+    /// Not the Rust's: whether a wide modulus is stored (modulus.rs).
+    pub stores_moduli: bool,
     pub df: Option<Defined>,
 }
 
@@ -71,7 +74,7 @@ impl Config {
     }
 
     pub fn stable_math(&self) -> bool {
-        unimplemented!()
+        self.stable
     }
 
     pub fn opt_level(&self) -> u8 {

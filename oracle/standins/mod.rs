@@ -10,6 +10,7 @@ pub mod config;
 pub mod generator;
 pub mod machine;
 pub mod mir;
+pub mod modulus;
 pub mod node;
 pub mod operation;
 pub mod serializer;

@@ -1,7 +1,6 @@
 //! The runner's program: random and exhaustive sheets through the Rust and through the library.
 
 mod call;
-mod class;
 mod exhaustive;
 mod lent;
 mod library;

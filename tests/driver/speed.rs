@@ -9,7 +9,7 @@ use std::process::ExitCode;
 use std::time::{Duration, Instant};
 
 use oracle::compile::Run;
-use oracle::differences::expected;
+use oracle::differences::{expected, Worked};
 use oracle::generate::{generate, Kind};
 use oracle::series::{accepted, Set};
 use oracle::sheet::Sheet;
@@ -75,7 +75,7 @@ fn measure(files: &[Vec<u8>], lent: &mut Lent) -> Times {
 
 fn rust(files: &[Vec<u8>]) -> Duration {
     let sheets = files.iter().map(|file| Sheet::read(file).expect("a sheet"));
-    let mut runs: Vec<Run> = sheets.map(|sheet| Run::new(&sheet, None)).collect();
+    let mut runs: Vec<Run> = sheets.map(|sheet| Run::new(&sheet, Worked::NONE)).collect();
     let start = Instant::now();
     for run in &mut runs {
         black_box(run.compile_mir());
@@ -87,7 +87,7 @@ fn rust_from_bytes(files: &[Vec<u8>]) -> Duration {
     let start = Instant::now();
     for file in files {
         let sheet = Sheet::read(file).expect("a sheet");
-        black_box(Run::new(&sheet, None).compile_mir());
+        black_box(Run::new(&sheet, Worked::NONE).compile_mir());
     }
     start.elapsed()
 }

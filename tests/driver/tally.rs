@@ -1,6 +1,7 @@
 //! The figures of a run.
 
-use crate::class::{Class, CLASSES};
+use oracle::class::{self, Class, CLASSES};
+
 use crate::lent::{Lending, OUTS, WORKS};
 
 /// How many reports are printed; a sheet has one for each call that is not as expected.
@@ -26,8 +27,7 @@ pub struct Tally {
 
 impl Tally {
     pub fn count_class(&mut self, class: Class) {
-        let row = CLASSES.iter().position(|(known, _)| *known == class);
-        self.classes[row.expect("a class of the table")] += 1;
+        self.classes[class::row(class)] += 1;
     }
 
     pub fn count_call(&mut self, lending: Lending, number: u32) {

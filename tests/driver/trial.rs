@@ -2,13 +2,13 @@
 
 use std::panic::catch_unwind;
 
+use oracle::class::{class, Class};
 use oracle::compile::{compile_bytes, Answer};
 use oracle::differences::{at_lent, listed};
 use oracle::generate::Random;
 use oracle::text::Listing;
 
 use crate::call::{Expected, Memory};
-use crate::class::{class, Class};
 use crate::lent::{Lending, FULL};
 use crate::library::Numbers;
 use crate::tally::Tally;
