@@ -12,6 +12,7 @@ enum Damage {
     Code,
     PlaceKind,
     StackIndex,
+    LowestPower,
     Destination,
     // to the file
     Byte,
@@ -21,14 +22,16 @@ enum Damage {
     FileSize,
     Header,
     Pair,
+    CutPower,
 }
 
-const DAMAGES: [(usize, Damage); 13] = [
+const DAMAGES: [(usize, Damage); 15] = [
     (4, Damage::Depth),
     (4, Damage::Nodes),
     (8, Damage::Code),
     (6, Damage::PlaceKind),
     (8, Damage::StackIndex),
+    (4, Damage::LowestPower),
     (4, Damage::Destination),
     (18, Damage::Byte),
     (14, Damage::NearByte),
@@ -37,6 +40,7 @@ const DAMAGES: [(usize, Damage); 13] = [
     (3, Damage::FileSize),
     (9, Damage::Header),
     (9, Damage::Pair),
+    (4, Damage::CutPower),
 ];
 const START: [(usize, Kind); 2] = [(60, Kind::Small), (40, Kind::Valid)];
 
@@ -81,6 +85,10 @@ fn damage_sheet(random: &mut Random, sheet: &mut Sheet, damage: Damage) {
             change_node(random, sheet, &mut |node| {
                 set_place(node, |place| *place = Place { kind: STACK, index })
             });
+        }
+        Damage::LowestPower => {
+            let power = random.pick(&[i32::MIN, i32::MIN, i32::MIN + 1]);
+            change_node(random, sheet, &mut |node| set_power(node, power));
         }
         Damage::Destination => destination(random, sheet),
         _ => {}
@@ -134,6 +142,16 @@ fn set_code(node: &mut Tree, new: u8) {
     }
 }
 
+/// A power gets another one; any other node is put under a modulus.
+fn set_power(node: &mut Tree, new: i32) {
+    if let Tree::Power(power, _) | Tree::ModularPower(power, _, _) = node {
+        *power = new;
+    } else {
+        let base = std::mem::replace(node, Tree::Constant(0));
+        *node = Tree::ModularPower(new, Box::new(base), Box::new(Tree::Constant(0)));
+    }
+}
+
 fn set_place(node: &mut Tree, change: impl Fn(&mut Place)) {
     if let Tree::Variable(place) | Tree::Choice(place, _, _) = node {
         change(place);
@@ -147,7 +165,7 @@ fn damage_file(random: &mut Random, bytes: &mut Vec<u8>, damage: Damage) {
             set_byte(random, bytes, |_| byte);
         }
         Damage::NearByte => {
-            let small = random.within(0, 8) as u8;
+            let small = random.within(0, 10) as u8;
             match random.within(0, 2) {
                 0 => set_byte(random, bytes, |byte| byte.wrapping_add(1)),
                 1 => set_byte(random, bytes, |byte| byte.wrapping_sub(1)),
@@ -169,6 +187,7 @@ fn damage_file(random: &mut Random, bytes: &mut Vec<u8>, damage: Damage) {
         }
         Damage::Header => header(random, bytes),
         Damage::Pair => pair(random, bytes),
+        Damage::CutPower => cut_power(random, bytes),
         _ => {}
     }
 }
@@ -187,7 +206,7 @@ fn header(random: &mut Random, bytes: &mut [u8]) {
     }
     match random.within(0, 5) {
         0 => bytes[0] = random.pick(&[0, 1, 2, 32, 33, 255]),
-        1 => bytes[1] = random.pick(&[0, 1, 2, 3, 4, 128]),
+        1 => bytes[1] = random.pick(&[0, 1, 3, 4, 7, 8, 128]),
         2 => bytes[2] = random.pick(&[0, 1, 8, 9, 255]),
         3 => bytes[3] = random.pick(&[0, 1, 255]),
         4 => {
@@ -217,6 +236,23 @@ fn pair(random: &mut Random, bytes: &mut [u8]) {
         5 => set_word(bytes, at, random.pick(&[0, 8, 65_535])),
         _ => (0..4).for_each(|k| bytes.swap(at + k, other + k)),
     }
+}
+
+/// A statement becomes a power that ends early: in its four bytes or right after them.
+fn cut_power(random: &mut Random, bytes: &mut [u8]) {
+    let count = if bytes.len() < 8 { 0 } else { word(bytes, 4) as usize };
+    if count == 0 || bytes.len() < 8 + 4 * count {
+        return;
+    }
+    let at = 8 + 4 * random.within(0, count - 1);
+    let tag = word(bytes, at) as usize + 3;
+    if tag + 5 > bytes.len() {
+        return;
+    }
+    bytes[tag] = random.pick(&[8, 9, 9]);
+    let power: i32 = random.pick(&[i32::MIN, i32::MIN, i32::MIN + 1, i32::MAX, 0]);
+    bytes[tag + 1..tag + 5].copy_from_slice(&power.to_le_bytes());
+    set_word(bytes, at + 2, random.within(4, 8) as u16);
 }
 
 pub fn word(bytes: &[u8], at: usize) -> u16 {

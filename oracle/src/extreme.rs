@@ -1,17 +1,20 @@
 //! Trees at the limits: chains, full trees and trees of an exact number of nodes, made of few parts.
 
 use crate::generate::{place, Random};
+use crate::powers::{modular, power, Range};
 use crate::sheet::{Place, Tree, DEPTH_LIMIT, MEMORY, PARAMETER, STACK};
 
 #[derive(Clone, Copy)]
 enum One {
     Unary(u8),
+    Power(i32),
     Function(u8),
 }
 
 #[derive(Clone, Copy)]
 enum Two {
     Binary(u8),
+    Power(i32),
     Choice(Place),
     Function(u8),
 }
@@ -48,6 +51,15 @@ impl Parts {
         }
     }
 
+    /// Powers only, some of them as long as can be.
+    pub fn powers(random: &mut Random, first: u16) -> Parts {
+        Parts {
+            leaves: few(random, |random| leaf(random, first)),
+            ones: few(random, |random| One::Power(power(random, Range::Long))),
+            twos: few(random, |random| Two::Power(modular(power(random, Range::Long)))),
+        }
+    }
+
     /// Functions only, so that every node but the leaves is a call.
     pub fn calls(random: &mut Random, first: u16) -> Parts {
         Parts {
@@ -65,6 +77,7 @@ impl Parts {
         let arg = Box::new(arg);
         match random.pick(&self.ones) {
             One::Unary(code) => Tree::Unary(code, arg),
+            One::Power(power) => Tree::Power(power, arg),
             One::Function(function) => Tree::Function1(function, arg),
         }
     }
@@ -73,6 +86,7 @@ impl Parts {
         let (left, right) = (Box::new(left), Box::new(right));
         match random.pick(&self.twos) {
             Two::Binary(code) => Tree::Binary(code, left, right),
+            Two::Power(power) => Tree::ModularPower(power, left, right),
             Two::Choice(condition) => Tree::Choice(condition, left, right),
             Two::Function(function) => Tree::Function2(function, left, right),
         }
@@ -154,15 +168,18 @@ fn leaf(random: &mut Random, first: u16) -> Tree {
 }
 
 fn one(random: &mut Random) -> One {
-    match random.percent(75) {
-        true => One::Unary(random.within(1, 21) as u8),
-        false => One::Function(random.pick(&[0, 1, 255])),
+    match random.within(0, 9) {
+        0..=5 => One::Unary(random.within(1, 21) as u8),
+        6 => One::Power(power(random, Range::Short)),
+        7 => One::Power(power(random, Range::Long)),
+        _ => One::Function(random.pick(&[0, 1, 255])),
     }
 }
 
 fn two(random: &mut Random, first: u16) -> Two {
     match random.within(0, 9) {
-        0..=6 => Two::Binary(random.within(1, 15) as u8),
+        0..=5 => Two::Binary(random.within(1, 15) as u8),
+        6 => Two::Power(power(random, Range::Short)),
         7 => Two::Choice(place(random, first, &PLACES)),
         _ => Two::Function(random.pick(&[0, 1, 255])),
     }

@@ -1,14 +1,15 @@
 //! Random sheets: every choice comes from the seed, the sheet's number and its kind.
 
 use crate::damage;
-use crate::grow::{Grower, Palette};
+use crate::grow::{Grower, One, Palette, Two};
 use crate::hostile;
+use crate::powers::{modular, power, Range};
 use crate::sheet::{Place, Sheet, Statement, Tree, FILE_LIMIT, MEMORY, NODE_LIMIT, PARAMETER};
 use crate::sheet::{STACK, STATEMENT_LIMIT};
 
 #[derive(Clone, Copy, PartialEq, Eq)]
 pub enum Kind {
-    /// Passes checks 1 to 7; mostly 5 to 60 nodes, with a tail up to 1,024.
+    /// Passes checks 1 to 7 and 11; mostly 5 to 60 nodes, with a tail up to 1,024.
     Valid,
     /// At most 24 nodes and 3 statements, over few leaves.
     Small,
@@ -53,6 +54,11 @@ impl Random {
     pub fn new(seed: u64, number: u64) -> Random {
         let mut random = Random(seed);
         Random(random.next() ^ number.wrapping_mul(0xd6e8_feb8_6659_fd93))
+    }
+
+    /// Numbers apart from those that follow here.
+    fn aside(&self) -> Random {
+        Random(self.0 ^ 0x706f_7765_7273)
     }
 
     pub fn next(&mut self) -> u64 {
@@ -114,6 +120,13 @@ const FIRST: Ranges = &[
 ];
 const SHARING_PERCENT: usize = 75;
 const FUSED_PERCENT: usize = 50;
+const STABLE_PERCENT: usize = 50;
+/// Sheets with powers among their operations, and how many to begin with.
+const POWERS_PERCENT: usize = 70;
+const POWERS: Ranges = &[(25, (1, 2)), (45, (3, 6)), (30, (7, 16))];
+const POWER_RANGES: [(usize, Range); 3] =
+    [(55, Range::Short), (30, Range::Middle), (15, Range::Long)];
+const LARGE_POWER_RANGES: [(usize, Range); 2] = [(92, Range::Short), (8, Range::Middle)];
 const VALID_NODES: Ranges =
     &[(70, (5, 60)), (18, (61, 200)), (8, (201, 700)), (3, (701, 1_023)), (1, (1_024, 1_024))];
 const SMALL_NODES: Ranges = &[(8, (1, 6)), (30, (7, 16)), (62, (17, 24))];
@@ -142,12 +155,14 @@ struct Size {
     statements: usize,
 }
 
-/// A sheet that passes checks 1 to 7.
+/// A sheet that passes checks 1 to 7 and 11. What powers take is drawn aside, so that a sheet without them is no other
+/// for their sake.
 pub fn valid(random: &mut Random, kind: Kind) -> Sheet {
+    let mut aside = random.aside();
     let long = kind == Kind::Large && random.percent(LONG_LIST_PERCENT);
     let mut sheet = Sheet {
         scratch: if long { 2 } else { random.ranged(SCRATCH) as u8 },
-        flags: flags(random),
+        flags: flags(random) + 4 * u8::from(aside.percent(STABLE_PERCENT)),
         step: random.within(1, 8) as u8,
         first: random.ranged(FIRST) as u16,
         statements: Vec::new(),
@@ -155,7 +170,10 @@ pub fn valid(random: &mut Random, kind: Kind) -> Sheet {
     let size = size(random, kind, long);
     let mut palette = palette(random, kind, sheet.first);
     if long {
-        palette = Palette { binary: vec![5], repeat_percent: 0, forms: FORMS[1], ..palette };
+        palette =
+            Palette { binary: vec![Two::Binary(5)], repeat_percent: 0, forms: FORMS[1], ..palette };
+    } else if aside.percent(POWERS_PERCENT) {
+        add_powers(&mut aside, kind, &mut palette);
     }
     fill(random, &mut sheet, size, palette);
     sheet
@@ -175,6 +193,22 @@ fn size(random: &mut Random, kind: Kind, long: bool) -> Size {
         _ => 0,
     };
     Size { most, least, statements: random.ranged(statements).min(most) }
+}
+
+/// Powers among the unaries, powers under a modulus among the binaries, or both.
+fn add_powers(random: &mut Random, kind: Kind, palette: &mut Palette) {
+    let range = match kind {
+        Kind::Large => random.weighted(&LARGE_POWER_RANGES),
+        _ => random.weighted(&POWER_RANGES),
+    };
+    palette.powers = (0..random.ranged(POWERS)).map(|_| power(random, range)).collect();
+    let which = random.within(0, 3);
+    if which != 0 {
+        palette.unary.extend(palette.powers.iter().map(|power| One::Power(*power)));
+    }
+    if which != 1 {
+        palette.binary.extend(palette.powers.iter().map(|power| Two::Power(modular(*power))));
+    }
 }
 
 fn flags(random: &mut Random) -> u8 {
@@ -237,8 +271,9 @@ fn palette(random: &mut Random, kind: Kind, first: u16) -> Palette {
         leaves: (0..leaves).map(|_| leaf(random, first)).collect(),
         conditions: (0..conditions).map(|_| place(random, first, &ALL_KINDS)).collect(),
         functions: (0..functions).map(|_| random.ranged(FUNCTION) as u8).collect(),
-        unary: codes(random, 21, UNARY_FAVOURED),
-        binary: codes(random, 15, BINARY_FAVOURED),
+        unary: codes(random, 21, UNARY_FAVOURED).into_iter().map(One::Unary).collect(),
+        binary: codes(random, 15, BINARY_FAVOURED).into_iter().map(Two::Binary).collect(),
+        powers: Vec::new(),
         repeat_percent: random.pick(if kind == Kind::Small { &SMALL_REPEATS } else { &REPEATS }),
         forms: random.pick(&FORMS),
     }

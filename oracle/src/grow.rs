@@ -2,15 +2,31 @@
 
 use crate::differences::commutes;
 use crate::generate::Random;
+use crate::powers::modular;
 use crate::sheet::{Place, Tree, DEPTH_LIMIT};
+
+#[derive(Clone, Copy)]
+pub enum One {
+    Unary(u8),
+    Power(i32),
+}
+
+#[derive(Clone, Copy)]
+pub enum Two {
+    Binary(u8),
+    /// Under a modulus.
+    Power(i32),
+}
 
 /// What the trees of one sheet are made of; small sets make repeats likely.
 pub struct Palette {
     pub leaves: Vec<Tree>,
     pub conditions: Vec<Place>,
     pub functions: Vec<u8>,
-    pub unary: Vec<u8>,
-    pub binary: Vec<u8>,
+    pub unary: Vec<One>,
+    pub binary: Vec<Two>,
+    /// Those among them.
+    pub powers: Vec<i32>,
     pub repeat_percent: usize,
     /// Weights of unary, binary, choice, function of one, function of two.
     pub forms: [usize; 5],
@@ -160,7 +176,10 @@ impl Grower<'_> {
         let arg = Box::new(arg);
         match form {
             Form::Function1 => Tree::Function1(self.random.pick(&self.palette.functions), arg),
-            _ => Tree::Unary(self.random.pick(&self.palette.unary), arg),
+            _ => match self.random.pick(&self.palette.unary) {
+                One::Unary(code) => Tree::Unary(code, arg),
+                One::Power(power) => Tree::Power(power, arg),
+            },
         }
     }
 
@@ -171,7 +190,10 @@ impl Grower<'_> {
             Form::Function2 => {
                 Tree::Function2(self.random.pick(&self.palette.functions), left, right)
             }
-            _ => Tree::Binary(self.random.pick(&self.palette.binary), left, right),
+            _ => match self.random.pick(&self.palette.binary) {
+                Two::Binary(code) => Tree::Binary(code, left, right),
+                Two::Power(power) => Tree::ModularPower(power, left, right),
+            },
         }
     }
 
@@ -213,14 +235,18 @@ impl Grower<'_> {
             Again::Exchanged => at_node(&mut tree, &mut at, &mut exchange),
             Again::Touched => {
                 let leaf = self.leaf();
-                at_node(&mut tree, &mut at, &mut |node| {
-                    if node.sides().is_empty() {
-                        *node = leaf.clone();
-                    }
-                });
+                let power = self.other_power();
+                at_node(&mut tree, &mut at, &mut |node| touch(node, &leaf, power));
             }
         }
         Some(tree)
+    }
+
+    fn other_power(&mut self) -> Option<i32> {
+        match self.palette.powers.len() {
+            0 => None,
+            count => Some(self.palette.powers[self.random.within(0, count - 1)]),
+        }
     }
 
     /// A tree of exactly this depth, leaves hanging from one path.
@@ -276,6 +302,16 @@ impl Grower<'_> {
                 self.double(Form::Binary, left, right)
             }
         }
+    }
+}
+
+/// Another leaf for a leaf, another power for a power.
+fn touch(node: &mut Tree, leaf: &Tree, power: Option<i32>) {
+    match (node, power) {
+        (Tree::Power(old, _), Some(power)) => *old = power,
+        (Tree::ModularPower(old, _, _), Some(power)) => *old = modular(power),
+        (node, _) if node.sides().is_empty() => *node = leaf.clone(),
+        _ => {}
     }
 }
 

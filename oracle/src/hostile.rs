@@ -3,7 +3,7 @@
 use crate::damage::{set_word, word};
 use crate::extreme::{Parts, LEANS};
 use crate::generate::{valid, Kind, Random};
-use crate::sheet::{Place, Sheet, Statement, Tree, FILE_LIMIT, MEMORY};
+use crate::sheet::{Place, Sheet, Statement, Tree, FILE_LIMIT, FLAGS, MEMORY};
 
 #[derive(Clone, Copy)]
 enum Form {
@@ -25,6 +25,8 @@ enum Form {
     LastIndex,
     /// Calls in calls.
     Calls,
+    /// Powers in powers: lists around the end of the output.
+    Powers,
     /// 16,383 to 16,385 bytes.
     FileSize,
     /// All bytes equal.
@@ -33,7 +35,7 @@ enum Form {
     Short,
 }
 
-const FORMS: [(usize, Form); 12] = [
+const FORMS: [(usize, Form); 13] = [
     (10, Form::Noise),
     (10, Form::Soup),
     (14, Form::Pairs),
@@ -43,6 +45,7 @@ const FORMS: [(usize, Form); 12] = [
     (8, Form::Same),
     (9, Form::LastIndex),
     (9, Form::Calls),
+    (9, Form::Powers),
     (4, Form::FileSize),
     (3, Form::Equal),
     (2, Form::Short),
@@ -59,6 +62,7 @@ pub fn hostile(random: &mut Random) -> Vec<u8> {
         Form::Same => written(same(random)),
         Form::LastIndex => written(last_index(random)),
         Form::Calls => written(calls(random)),
+        Form::Powers => written(powers(random)),
         Form::FileSize => file_size(random),
         Form::Equal => equal(random),
         Form::Short => short(random),
@@ -73,7 +77,7 @@ fn written(sheet: Sheet) -> Vec<u8> {
 fn empty(random: &mut Random) -> Sheet {
     Sheet {
         scratch: random.pick(&[2, 2, 2, 2, 3, 3, 4, 5, 8, 32]),
-        flags: random.within(0, 3) as u8,
+        flags: random.within(0, FLAGS.into()) as u8,
         step: random.pick(&[1, 2, 7, 8]),
         first: random.pick(&[0, 1, 2, 10, 10, 10, 32_768, 65_534, 65_535]),
         statements: Vec::new(),
@@ -108,7 +112,7 @@ fn soup(random: &mut Random) -> Vec<u8> {
         offset += length;
     }
     for length in lengths {
-        let top = random.pick(&[2, 4, 7, 8]);
+        let top = random.pick(&[2, 4, 7, 9, 10]);
         let statement = (0..length).map(|at| match at {
             0 => random.within(1, 2) as u8,
             2 | 5 | 6 => 0,
@@ -271,6 +275,21 @@ fn calls(random: &mut Random) -> Sheet {
     sheet
 }
 
+/// Eight or nine powers under a modulus fill the output; a chain of negations behind them goes on from there.
+fn powers(random: &mut Random) -> Sheet {
+    let mut sheet = empty(random);
+    let parts = Parts::powers(random, sheet.first);
+    for _ in 0..random.within(1, 6) {
+        let nodes = random.within(1, 8);
+        let tree = parts.exact(random, nodes);
+        add(&mut sheet, tree);
+    }
+    let leaf = parts.leaf(random);
+    let negations = random.within(0, 60);
+    add(&mut sheet, (0..negations).fold(leaf, |tree, _| Tree::Unary(1, Box::new(tree))));
+    sheet
+}
+
 /// The rest of the file is one gap, before, between or after the statements.
 fn file_size(random: &mut Random) -> Vec<u8> {
     let sheet = valid(random, Kind::Small);
@@ -284,7 +303,7 @@ fn file_size(random: &mut Random) -> Vec<u8> {
 
 fn equal(random: &mut Random) -> Vec<u8> {
     let byte = match random.percent(60) {
-        true => random.within(0, 8) as u8,
+        true => random.within(0, 10) as u8,
         false => random.next() as u8,
     };
     let size = random.ranged(&[(40, (0, 40)), (40, (41, 2_000)), (20, (16_383, 16_385))]);

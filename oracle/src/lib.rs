@@ -8,6 +8,7 @@ pub mod extreme;
 pub mod generate;
 pub mod grow;
 pub mod hostile;
+pub mod powers;
 pub mod series;
 pub mod sheet;
 pub mod text;

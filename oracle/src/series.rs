@@ -1,8 +1,8 @@
-//! Sheets of a given size, for measuring: exactly so many nodes, few or many repeats.
+//! Sheets of a given size, for measuring: exactly so many nodes, few or many repeats, no powers.
 
 use crate::differences::expected;
 use crate::generate::{place, Random};
-use crate::grow::{Grower, Palette};
+use crate::grow::{Grower, One, Palette, Two};
 use crate::sheet::{Place, Sheet, Statement, Tree, MEMORY, PARAMETER, STACK, STATEMENT_LIMIT};
 
 /// What all sheets of one set have in common.
@@ -60,8 +60,9 @@ fn palette(random: &mut Random, many_repeats: bool) -> Palette {
         leaves: (0..leaves).map(|_| leaf(random)).collect(),
         conditions: (0..3).map(|_| place(random, FIRST, &[STACK, MEMORY])).collect(),
         functions: vec![0, 7, 255],
-        unary: (1..=21).collect(),
-        binary: (1..=15).collect(),
+        unary: (1..=21).map(One::Unary).collect(),
+        binary: (1..=15).map(Two::Binary).collect(),
+        powers: Vec::new(),
         repeat_percent: if many_repeats { 60 } else { 0 },
         forms: [20, 55, 8, 7, 10],
     }
