@@ -7,7 +7,7 @@
 #include <stdio.h>
 #include <string.h>
 
-enum { WORDS = 16384, FILE_MAX = 16384, NO_WORK = 1, NO_ROOM = 10 };
+enum { WORDS = 16384, FILE_MAX = 16384, NO_WORK = 1, NO_ROOM = 10, LAST_NUMBER = 11 };
 enum { SAVE = 3, SWAP = 5, CALL = 11, NEED = 12, TEMP = 254, RET = 255 };
 
 /* The arguments of one call. */
@@ -61,7 +61,7 @@ static inline int needs_hold(const uint32_t *op, uint32_t ops, uint32_t scratch)
 static inline const char *wrong_after(struct lent l, struct zubmanger_numbers r)
 {
     size_t list = 6 * (size_t)r.ops;
-    if (r.number > NO_ROOM)
+    if (r.number > LAST_NUMBER)
         return "no such refusal";
     if (r.number > 0 && (r.ops > 0 || r.temps > 0))
         return "a refusal has counts";

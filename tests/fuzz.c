@@ -3,11 +3,11 @@
 #include "check.h"
 #include "pages.h"
 
-enum { UNARY = 21, BINARY = 15, VARIABLE = 2, CHOICE = 5, TAGS = 7, STACK = 1, KINDS = 3, GUARD = 64 };
+enum { UNARY = 21, BINARY = 15, VARIABLE = 2, CHOICE = 5, TAGS = 9, STACK = 1, KINDS = 3, FLAGS = 7, GUARD = 64 };
 
 static struct room file_room, work_room, out_room;
 static uint32_t list[WORDS];
-static unsigned long answers[NO_ROOM + 1];
+static unsigned long answers[LAST_NUMBER + 1];
 
 size_t LLVMFuzzerMutate(uint8_t *bytes, size_t size, size_t most);
 size_t LLVMFuzzerCustomMutator(uint8_t *bytes, size_t size, size_t most, unsigned seed);
@@ -66,8 +66,8 @@ int LLVMFuzzerTestOneInput(const uint8_t *bytes, size_t size)
 static void print_answers(void)
 {
     fprintf(stderr, "answers: %lu lists; refused", answers[0]);
-    for (int k = 1; k <= NO_ROOM; k++)
-        fprintf(stderr, " %d: %lu%s", k, answers[k], k < NO_ROOM ? "," : "\n");
+    for (int k = 1; k <= LAST_NUMBER; k++)
+        fprintf(stderr, " %d: %lu%s", k, answers[k], k < LAST_NUMBER ? "," : "\n");
 }
 
 int LLVMFuzzerInitialize(int *count, char ***words)
@@ -97,9 +97,9 @@ static void mend_place(uint8_t *place, uint8_t kinds)
 /* Makes a tree of the bytes from one on, and gives its end, or 0 where the bytes are too few. */
 static size_t mend_tree(uint8_t *bytes, size_t at, size_t size)
 {
-    static const uint8_t codes[TAGS + 1] = { 0, 0, 0, UNARY, BINARY, 0, 0, 0 };
-    static const uint8_t length[TAGS + 1] = { 0, 3, 4, 2, 2, 4, 2, 2 };
-    static const uint8_t sides[TAGS + 1] = { 0, 0, 0, 1, 2, 2, 1, 2 };
+    static const uint8_t codes[TAGS + 1] = { 0, 0, 0, UNARY, BINARY };
+    static const uint8_t length[TAGS + 1] = { 0, 3, 4, 2, 2, 4, 2, 2, 5, 5 };
+    static const uint8_t sides[TAGS + 1] = { 0, 0, 0, 1, 2, 2, 1, 2, 1, 2 };
     for (size_t trees = 1; trees > 0;) {
         if (at + 4 > size)
             return 0;
@@ -122,7 +122,7 @@ static void mend(uint8_t *bytes, size_t size)
     if (size < 8)
         return;
     bytes[0] = 1 + fit((uint8_t)(bytes[0] - 1), 31);
-    bytes[1] &= 3;
+    bytes[1] &= FLAGS;
     bytes[2] = fit(bytes[2], 8);
     bytes[3] = 0;
     bytes[7] = fit(bytes[7], 255);

@@ -72,40 +72,46 @@ fn passes(sheet: &Sheet, own: &Listing, number: u8) -> bool {
     }
 }
 
-/// A difference, the sheets that can have it, and the others worked in without it.
+/// A difference, the sheets that can have it, and how it is worked in or left out.
 struct Cause {
     class: Class,
     possible: fn(&Sheet) -> bool,
-    others: Worked,
+    switched: fn(Worked, bool) -> Worked,
 }
 
 const CAUSES: [Cause; 4] = [
     Cause {
         class: Class::ChanceKeys,
         possible: calls_may_merge,
-        others: Worked { calls: false, ..Worked::ALL },
+        switched: |worked, calls| Worked { calls, ..worked },
     },
     Cause {
         class: Class::MoveOrder,
         possible: |sheet| sheet.count(is_call_of_two) > 0,
-        others: Worked { moves: false, ..Worked::ALL },
+        switched: |worked, moves| Worked { moves, ..worked },
     },
     Cause {
         class: Class::WideModulus,
         possible: |sheet| sheet.count(is_modular) > 0,
-        others: Worked { moduli: false, ..Worked::ALL },
+        switched: |worked, moduli| Worked { moduli, ..worked },
     },
     Cause {
         class: Class::LowestPower,
         possible: |sheet| sheet.count(is_lowest) > 0,
-        others: Worked { lowest: false, ..Worked::ALL },
+        switched: |worked, lowest| Worked { lowest, ..worked },
     },
 ];
 
-/// The differences without which the answer would be another one; the Rust's own answer has none of them worked in.
+/// The differences without which the answer would be another one; or those that bring it each by itself, such as two
+/// that both take the temporaries past the last index. The Rust's own answer has none worked in.
 fn different(sheet: &Sheet, due: Result<&Listing, u8>) -> Class {
-    let told = |cause: &&Cause| full(&listed_with(sheet, cause.others)) != due;
-    let found: Vec<&Cause> = CAUSES.iter().filter(told).collect();
+    let brings = |worked: Worked| full(&listed_with(sheet, worked)) == due;
+    let missed = |cause: &&Cause| !brings((cause.switched)(Worked::ALL, false));
+    let enough = |cause: &&Cause| brings((cause.switched)(Worked::NONE, true));
+    let mut found: Vec<&Cause> = CAUSES.iter().filter(missed).collect();
+    if found.is_empty() {
+        found = CAUSES.iter().filter(enough).collect();
+    }
     match found[..] {
         _ if !found.iter().all(|cause| (cause.possible)(sheet)) => Class::Unexplained,
         [] => Class::Unexplained,

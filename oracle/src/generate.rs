@@ -155,8 +155,8 @@ struct Size {
     statements: usize,
 }
 
-/// A sheet that passes checks 1 to 7 and 11. What powers take is drawn aside, so that a sheet without them is no other
-/// for their sake.
+/// A sheet that passes checks 1 to 7 and 11. What powers take is drawn aside, so that a sheet that is to have none is no
+/// other for their sake.
 pub fn valid(random: &mut Random, kind: Kind) -> Sheet {
     let mut aside = random.aside();
     let long = kind == Kind::Large && random.percent(LONG_LIST_PERCENT);

@@ -326,7 +326,7 @@ fn commute(random: &mut Random, tree: &mut Tree) {
 }
 
 /// Exchanges a node's sides, whether or not its operation commutes.
-fn exchange(tree: &mut Tree) {
+pub fn exchange(tree: &mut Tree) {
     if let [left, right] = &mut tree.sides_mut()[..] {
         std::mem::swap(*left, *right);
     }

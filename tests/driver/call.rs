@@ -4,8 +4,8 @@ use oracle::text::Listing;
 
 use crate::library::{compile, Numbers};
 
-/// The most words that are lent at a time: the longest list has fewer.
-pub const MOST: usize = 65_536;
+/// The most words that are lent at a time: the longest list has 935,502.
+pub const MOST: usize = 1 << 20;
 const GUARD: usize = 64;
 static ZEROS: [u32; MOST] = [0; MOST];
 

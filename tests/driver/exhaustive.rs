@@ -1,13 +1,16 @@
-//! Every tree of up to five nodes over one alphabet, and of six and seven over a smaller one, with scratch
-//! count 2 and 3 and all flags.
+//! Every tree of up to five nodes over one alphabet, and of six and seven over a smaller one, without powers; every power,
+//! and every tree of up to six nodes with powers among its operations; with scratch count 2 and 3 and all flags.
 
+use oracle::grow::{exchange, One, Two};
 use oracle::sheet::{Place, Sheet, Statement, Tree, MEMORY, STACK};
+
+use crate::powers;
 
 /// What trees are made of besides f0 of one and of two.
 struct Alphabet {
     leaves: &'static [Tree],
-    unary: &'static [u8],
-    binary: &'static [u8],
+    unary: &'static [One],
+    binary: &'static [Two],
     choice: Option<Place>,
 }
 
@@ -19,8 +22,8 @@ const S0: Place = Place { kind: STACK, index: 0 };
 /// rem expands, eq commutes and does not fuse.
 const WIDE: Alphabet = Alphabet {
     leaves: &[Tree::Constant(0), Tree::Variable(M0), Tree::Variable(M1), Tree::Variable(S0)],
-    unary: &[1, 10, 16],
-    binary: &[1, 2, 5, 10],
+    unary: &[One::Unary(1), One::Unary(10), One::Unary(16)],
+    binary: &[Two::Binary(1), Two::Binary(2), Two::Binary(5), Two::Binary(10)],
     choice: Some(M0),
 };
 const WIDE_NODES: usize = 5;
@@ -29,29 +32,48 @@ const WIDE_NODES: usize = 5;
 const NARROW: Alphabet = Alphabet {
     leaves: &[Tree::Constant(0), Tree::Variable(M0)],
     unary: &[],
-    binary: &[1, 2],
+    binary: &[Two::Binary(1), Two::Binary(2)],
     choice: None,
 };
 const NARROW_NODES: usize = 7;
 
+/// A negative power, which minds flag 4, a positive one under a modulus, and a sum.
+const RAISED: Alphabet = Alphabet {
+    leaves: &[Tree::Constant(0), Tree::Variable(M0)],
+    unary: &[One::Power(-2)],
+    binary: &[Two::Power(3), Two::Binary(1)],
+    choice: None,
+};
+const RAISED_NODES: usize = 6;
+
 const SCRATCH: [u8; 2] = [2, 3];
-const FLAGS: [u8; 4] = [0, 1, 2, 3];
+/// Sharing and fused; with flag 4, which is for powers alone.
+const FLAGS: usize = 4;
+const POWER_FLAGS: usize = 8;
 /// One statement of the tree; or the tree, the tree with all sides exchanged, and the tree again.
 const FORMS: usize = 2;
 
 pub struct Exhaustive {
     trees: Vec<Tree>,
+    flags: usize,
 }
 
 impl Exhaustive {
-    pub fn new() -> Exhaustive {
+    pub fn without_powers() -> Exhaustive {
         let mut trees = WIDE.trees(WIDE_NODES).concat();
         trees.extend(NARROW.trees(NARROW_NODES)[WIDE_NODES + 1..].concat());
-        Exhaustive { trees }
+        Exhaustive { trees, flags: FLAGS }
+    }
+
+    pub fn with_powers() -> Exhaustive {
+        let mut trees = powers::trees();
+        let small = RAISED.trees(RAISED_NODES).concat();
+        trees.extend(small.into_iter().filter(|tree| tree.count(Tree::is_power) > 0));
+        Exhaustive { trees, flags: POWER_FLAGS }
     }
 
     pub fn count(&self) -> u64 {
-        (self.trees.len() * FORMS * SCRATCH.len() * FLAGS.len()) as u64
+        (self.trees.len() * FORMS * SCRATCH.len() * self.flags) as u64
     }
 
     /// The file of one of the sheets.
@@ -62,7 +84,7 @@ impl Exhaustive {
             rest /= base;
             digit
         };
-        let (form, flags, scratch) = (digit(FORMS), digit(FLAGS.len()), digit(SCRATCH.len()));
+        let (form, flags, scratch) = (digit(FORMS), digit(self.flags), digit(SCRATCH.len()));
         let tree = &self.trees[rest];
         let trees = match form {
             0 => vec![tree.clone()],
@@ -70,7 +92,7 @@ impl Exhaustive {
         };
         let sheet = Sheet {
             scratch: SCRATCH[scratch],
-            flags: FLAGS[flags],
+            flags: flags as u8,
             step: 1,
             first: 10,
             statements: trees.into_iter().enumerate().map(statement).collect(),
@@ -102,16 +124,22 @@ impl Alphabet {
 
     fn over_one(&self, arg: &Tree) -> Vec<Tree> {
         let arg = || Box::new(arg.clone());
-        let mut found: Vec<Tree> =
-            self.unary.iter().map(|code| Tree::Unary(*code, arg())).collect();
+        let single = |one: &One| match *one {
+            One::Unary(code) => Tree::Unary(code, arg()),
+            One::Power(power) => Tree::Power(power, arg()),
+        };
+        let mut found: Vec<Tree> = self.unary.iter().map(single).collect();
         found.push(Tree::Function1(0, arg()));
         found
     }
 
     fn over_two(&self, left: &Tree, right: &Tree) -> Vec<Tree> {
         let (left, right) = (|| Box::new(left.clone()), || Box::new(right.clone()));
-        let binary = |code: &u8| Tree::Binary(*code, left(), right());
-        let mut found: Vec<Tree> = self.binary.iter().map(binary).collect();
+        let double = |two: &Two| match *two {
+            Two::Binary(code) => Tree::Binary(code, left(), right()),
+            Two::Power(power) => Tree::ModularPower(power, left(), right()),
+        };
+        let mut found: Vec<Tree> = self.binary.iter().map(double).collect();
         found.extend(self.choice.map(|condition| Tree::Choice(condition, left(), right())));
         found.push(Tree::Function2(0, left(), right()));
         found
@@ -124,15 +152,10 @@ fn pairs<'a>(lefts: &'a [Tree], rights: &'a [Tree]) -> impl Iterator<Item = (&'a
 
 /// The tree with the sides of every node exchanged.
 fn exchanged(tree: &Tree) -> Tree {
-    let side = |side: &Tree| Box::new(exchanged(side));
-    match tree {
-        Tree::Constant(_) | Tree::Variable(_) => tree.clone(),
-        Tree::Unary(code, arg) => Tree::Unary(*code, side(arg)),
-        Tree::Function1(function, arg) => Tree::Function1(*function, side(arg)),
-        Tree::Binary(code, left, right) => Tree::Binary(*code, side(right), side(left)),
-        Tree::Choice(place, left, right) => Tree::Choice(*place, side(right), side(left)),
-        Tree::Function2(function, left, right) => {
-            Tree::Function2(*function, side(right), side(left))
-        }
+    let mut tree = tree.clone();
+    exchange(&mut tree);
+    for side in tree.sides_mut() {
+        *side = exchanged(side);
     }
+    tree
 }

@@ -1,9 +1,10 @@
-//! The runner's program: random and exhaustive sheets through the Rust and through the library.
+//! The runner's program: random sheets, all small ones and all powers through the Rust and through the library.
 
 mod call;
 mod exhaustive;
 mod lent;
 mod library;
+mod powers;
 mod tally;
 mod trial;
 
@@ -36,25 +37,40 @@ const TAKEN: u64 = 100;
 const LENDING_SEED: u64 = 0x6c65_6e64;
 
 fn main() -> ExitCode {
-    let arguments: Option<Vec<u64>> =
-        std::env::args().skip(1).map(|word| word.parse().ok()).collect();
-    let (count, seed) = match arguments.as_deref() {
-        Some([]) => (COUNT, SEED),
-        Some([count]) => (*count, SEED),
-        Some([count, seed]) => (*count, *seed),
-        _ => {
-            eprintln!("usage: runner [COUNT [SEED]]");
-            return ExitCode::FAILURE;
-        }
+    let words: Vec<String> = std::env::args().skip(1).collect();
+    let Some((count, seed)) = arguments(&words) else {
+        eprintln!("usage: runner [COUNT [SEED]] | runner --powers");
+        return ExitCode::FAILURE;
     };
     let began = Instant::now();
-    let random = run(count, seed, &|number| random_sheet(seed, number));
-    let all = Exhaustive::new();
-    let exhaustive = run(all.count(), seed, &|number| Sheet {
-        name: format!("exhaustive sheet {number}"),
+    let mut runs = Vec::new();
+    if let Some(count) = count {
+        runs.push(("random", run(count, seed, &|number| random_sheet(seed, number))));
+        runs.push(("exhaustive", run_all(seed, "exhaustive", &Exhaustive::without_powers())));
+    }
+    runs.push(("powers", run_all(seed, "power", &Exhaustive::with_powers())));
+    summary(seed, &runs, began.elapsed().as_secs())
+}
+
+/// How many random sheets, none where only powers are asked for, and the seed.
+fn arguments(words: &[String]) -> Option<(Option<u64>, u64)> {
+    if words == ["--powers"] {
+        return Some((None, SEED));
+    }
+    let numbers: Option<Vec<u64>> = words.iter().map(|word| word.parse().ok()).collect();
+    match numbers?[..] {
+        [] => Some((Some(COUNT), SEED)),
+        [count] => Some((Some(count), SEED)),
+        [count, seed] => Some((Some(count), seed)),
+        _ => None,
+    }
+}
+
+fn run_all(seed: u64, name: &str, all: &Exhaustive) -> Tally {
+    run(all.count(), seed, &|number| Sheet {
+        name: format!("{name} sheet {number}"),
         file: all.file(number),
-    });
-    summary(seed, &random, &exhaustive, began.elapsed().as_secs())
+    })
 }
 
 /// Tries the sheets numbered 0 to count - 1, on all processors.
@@ -100,20 +116,28 @@ fn random_sheet(seed: u64, number: u64) -> Sheet {
     unreachable!("a place within the mix")
 }
 
-fn summary(seed: u64, random: &Tally, exhaustive: &Tally, seconds: u64) -> ExitCode {
-    for report in random.reports.iter().chain(&exhaustive.reports) {
+fn summary(seed: u64, runs: &[(&str, Tally)], seconds: u64) -> ExitCode {
+    for report in runs.iter().flat_map(|(_, tally)| &tally.reports) {
         println!("{report}");
     }
     let shares: Vec<String> =
         MIX.iter().map(|(_, name, share)| format!("{}% {name}", 100 * share / MIXED)).collect();
-    println!("Seed {seed}: {}", shares.join(", "));
-    tally::print(random, exhaustive);
-    let unexplained = random.unexplained + exhaustive.unexplained;
+    println!("Random sheets, seed {seed}: {}", shares.join(", "));
+    tally::print(runs);
+    let sheets = |(name, tally): &(&str, Tally)| match *name {
+        "random" => format!(
+            "{} random sheets (seed {seed}; {} with a power)",
+            commas(tally.sheets),
+            commas(tally.with_power)
+        ),
+        "powers" => format!("{} of all powers", commas(tally.sheets)),
+        _ => format!("{} {name}", commas(tally.sheets)),
+    };
+    let unexplained = runs.iter().map(|(_, tally)| tally.unexplained).sum();
     println!(
-        "{} random sheets (seed {seed}), {} exhaustive, {} calls: {} unexplained, in {seconds} s",
-        commas(random.sheets),
-        commas(exhaustive.sheets),
-        commas(random.calls + exhaustive.calls),
+        "{}, {} calls: {} unexplained, in {seconds} s",
+        runs.iter().map(sheets).collect::<Vec<String>>().join(", "),
+        commas(runs.iter().map(|(_, tally)| tally.calls).sum()),
         commas(unexplained),
     );
     if unexplained == 0 {

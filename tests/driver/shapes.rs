@@ -97,6 +97,23 @@ fn calls_of_two() -> Vec<u8> {
     )
 }
 
+fn squares(index: usize) -> Tree {
+    chain(63, leaf(index), |tree| Tree::Power(2, Box::new(tree)))
+}
+
+/// The longest list that a sheet can stand for, 301 operations a power; there is no room for it.
+fn longest_powers(leaves: &[Tree]) -> Tree {
+    match leaves {
+        [leaf] => leaf.clone(),
+        _ => {
+            let (base, modulus) = leaves.split_at(leaves.len() / 2);
+            let sides = [base, modulus].map(|half| Box::new(longest_powers(half)));
+            let [base, modulus] = sides;
+            Tree::ModularPower(i32::MAX, base, modulus)
+        }
+    }
+}
+
 fn different_leaves(count: usize) -> Vec<Tree> {
     (0..count).map(leaf).collect()
 }
@@ -167,6 +184,11 @@ pub fn shapes() -> Vec<Shape> {
         ("8 full trees split at scratch 2", splits()),
         ("68 trees all the same", all_shared()),
         ("68 trees all different", none_shared()),
+        ("16 chains of 63 powers of 2", sheet(8, SHARING, (0..16).map(squares))),
+        (
+            "511 powers of 2^31 - 1, refused for room",
+            sheet(2, 0, [longest_powers(&different_leaves(512))]),
+        ),
     ];
     all.into_iter().map(|(name, file)| Shape { name, file }).collect()
 }

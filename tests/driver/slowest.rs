@@ -10,8 +10,9 @@ use std::time::{Duration, Instant};
 use oracle::differences::expected;
 use oracle::generate::Random;
 use oracle::grow::at_node;
+use oracle::powers::{power, Range};
 use oracle::series::{accepted, Set};
-use oracle::sheet::{Place, Sheet, Tree, MEMORY, NODE_LIMIT};
+use oracle::sheet::{Place, Sheet, Tree, FLAGS, MEMORY, NODE_LIMIT};
 
 use crate::library::compile;
 use crate::shapes::shapes;
@@ -72,7 +73,7 @@ impl Search {
     /// One node put over a tree, or a tree made of two.
     fn over(&mut self, tree: Tree, other: Tree) -> Tree {
         let (tree, other) = (Box::new(tree), Box::new(other));
-        match self.random.within(0, 5) {
+        match self.random.within(0, 7) {
             0 => Tree::Unary(self.random.within(1, 21) as u8, tree),
             1 => Tree::Binary(self.random.within(1, 15) as u8, tree, other),
             2 => Tree::Binary(1, tree, other),
@@ -82,6 +83,8 @@ impl Search {
                 other,
             ),
             4 => Tree::Function1(self.random.within(0, 3) as u8, tree),
+            5 => Tree::Power(power(&mut self.random, Range::Short), tree),
+            6 => Tree::ModularPower(power(&mut self.random, Range::Short), tree, other),
             _ => Tree::Function2(self.random.within(0, 3) as u8, tree, other),
         }
     }
@@ -106,7 +109,7 @@ impl Search {
         let at = self.random.within(0, sheet.statements.len() - 1);
         match self.random.within(0, 8) {
             0 => sheet.scratch = self.random.within(2, 8) as u8,
-            1 => sheet.flags = self.random.within(0, 3) as u8,
+            1 => sheet.flags = self.random.within(0, FLAGS.into()) as u8,
             2 => {
                 let to = self.random.within(0, sheet.statements.len() - 1);
                 sheet.statements.swap(at, to);

@@ -12,7 +12,7 @@ use oracle::compile::Run;
 use oracle::differences::{expected, Worked};
 use oracle::generate::{generate, Kind};
 use oracle::series::{accepted, Set};
-use oracle::sheet::Sheet;
+use oracle::sheet::{Sheet, Tree};
 
 use crate::library::compile;
 use crate::shapes::{nested_calls, shapes, Shape};
@@ -124,11 +124,14 @@ fn median(files: &[Vec<u8>], lent: &mut Lent) -> f64 {
     times[times.len() / 2]
 }
 
-/// The first generated sheets of 10 to 300 nodes that have a list.
-fn collection() -> Vec<Vec<u8>> {
-    let fits = |file: &Vec<u8>| match Sheet::read(file) {
-        Ok(sheet) => COLLECTION_NODES.contains(&sheet.nodes()) && expected(file).is_ok(),
-        Err(_) => false,
+/// The first generated sheets of 10 to 300 nodes, with powers or without, that have a list.
+fn collection(powers: bool) -> Vec<Vec<u8>> {
+    let right = |sheet: &Sheet| {
+        let has_power = sheet.count(Tree::is_power) > 0;
+        has_power == powers && COLLECTION_NODES.contains(&sheet.nodes())
+    };
+    let fits = |file: &Vec<u8>| {
+        Sheet::read(file).is_ok_and(|sheet| right(&sheet)) && expected(file).is_ok()
     };
     (0..).map(|number| generate(SEED, number, Kind::Valid)).filter(fits).take(COLLECTION).collect()
 }
@@ -190,8 +193,12 @@ fn table(shapes: &[Shape], lent: &mut Lent) -> (f64, f64) {
 fn main() -> ExitCode {
     let mut lent = Lent { work: vec![0; WORDS], out: vec![0; WORDS] };
     heading("ns a sheet");
-    let whole = measure(&collection(), &mut lent);
+    let whole = measure(&collection(false), &mut lent);
     report(&format!("collection of {COLLECTION}, 10 to 300 nodes"), &whole);
+    report(
+        &format!("{COLLECTION} like these, with powers"),
+        &measure(&collection(true), &mut lent),
+    );
     let sets = [(true, false), (true, true), (false, false), (false, true)];
     let shown: Vec<Shown> =
         sets.iter().map(|(sharing, repeats)| series(*sharing, *repeats, &mut lent)).collect();

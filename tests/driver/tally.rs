@@ -6,15 +6,19 @@ use crate::lent::{Lending, OUTS, WORKS};
 
 /// How many reports are printed; a sheet has one for each call that is not as expected.
 const PRINTED: usize = 10;
+/// The last refusal.
+pub const LAST_NUMBER: usize = 11;
 
 #[derive(Default)]
 pub struct Tally {
     pub sheets: u64,
     pub calls: u64,
+    /// Those that checks 2 to 7 and 11 let pass, with a power in them.
+    pub with_power: u64,
     /// By number, at full lending; 0 is a list.
-    pub numbers: [u64; 11],
+    pub numbers: [u64; LAST_NUMBER + 1],
     /// By number, over all calls.
-    pub answers: [u64; 11],
+    pub answers: [u64; LAST_NUMBER + 1],
     pub classes: [u64; CLASSES.len()],
     pub works: [u64; WORKS.len()],
     pub outs: [u64; OUTS.len()],
@@ -32,7 +36,7 @@ impl Tally {
 
     pub fn count_call(&mut self, lending: Lending, number: u32) {
         self.calls += 1;
-        self.answers[number.min(10) as usize] += 1;
+        self.answers[number.min(LAST_NUMBER as u32) as usize] += 1;
         self.works[lending.work] += 1;
         self.outs[lending.out] += 1;
     }
@@ -56,6 +60,7 @@ impl Tally {
     pub fn add(&mut self, other: Tally) {
         self.sheets += other.sheets;
         self.calls += other.calls;
+        self.with_power += other.with_power;
         add_each(&mut self.numbers, &other.numbers);
         add_each(&mut self.answers, &other.answers);
         add_each(&mut self.classes, &other.classes);
@@ -85,23 +90,30 @@ pub fn commas(number: u64) -> String {
     text
 }
 
-/// The figures of random and exhaustive sheets, in two columns.
-pub fn print(random: &Tally, exhaustive: &Tally) {
-    println!("{:>10} {:>10}", "random", "exhaustive");
-    let row = |of: &dyn Fn(&Tally) -> u64, name: &str| {
-        println!("{:>10} {:>10} {name}", commas(of(random)), commas(of(exhaustive)));
+/// The figures of some runs, a column each.
+pub fn print(runs: &[(&str, Tally)]) {
+    let columns = |cell: &dyn Fn(&(&str, Tally)) -> String, name: &str| {
+        let cells: Vec<String> = runs.iter().map(|run| format!("{:>10}", cell(run))).collect();
+        println!("{} {name}", cells.join(" "));
     };
+    let row = |of: &dyn Fn(&Tally) -> u64, name: &str| {
+        columns(&|(_, tally)| commas(of(tally)), name);
+    };
+    columns(&|(name, _)| name.to_string(), "");
+    row(&|tally| tally.sheets, "sheets");
+    row(&|tally| tally.with_power, "with a power, and read");
+    println!("The Rust's answer:");
     for (at, (_, name)) in CLASSES.iter().enumerate() {
         row(&|tally| tally.classes[at], name);
     }
     println!("At full lending:");
     row(&|tally| tally.numbers[0], "with a list");
-    for number in 2..=10 {
+    for number in 2..=LAST_NUMBER {
         row(&|tally| tally.numbers[number], &format!("refused {number}"));
     }
     println!("Calls:");
     row(&|tally| tally.answers[0], "with a list");
-    for number in 1..=10 {
+    for number in 1..=LAST_NUMBER {
         row(&|tally| tally.answers[number], &format!("refused {number}"));
     }
     println!("Calls by words lent:");
@@ -111,7 +123,7 @@ pub fn print(random: &Tally, exhaustive: &Tally) {
     for (at, (name, _)) in OUTS.iter().enumerate() {
         row(&|tally| tally.outs[at], &format!("output of {name}"));
     }
-    println!("Lists that checks 2 to 9 let pass:");
+    println!("Lists that checks 2 to 9 and 11 let pass:");
     row(&|tally| tally.longest, "operations at most");
     row(&|tally| tally.most_temps, "temporaries at most");
 }

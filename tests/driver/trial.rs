@@ -1,4 +1,4 @@
-//! One sheet given to both: the Rust's answer classed, and every call of ours held to document 01.
+//! One sheet given to both: the Rust's answer classed, and every call of ours held to the documents.
 
 use std::panic::catch_unwind;
 
@@ -6,12 +6,13 @@ use oracle::class::{class, Class};
 use oracle::compile::{compile_bytes, Answer};
 use oracle::differences::{at_lent, listed};
 use oracle::generate::Random;
+use oracle::sheet::Tree;
 use oracle::text::Listing;
 
 use crate::call::{Expected, Memory};
 use crate::lent::{Lending, FULL};
 use crate::library::Numbers;
-use crate::tally::Tally;
+use crate::tally::{Tally, LAST_NUMBER};
 
 /// Calls with other than full lending, for each sheet.
 const OTHER_LENDINGS: usize = 2;
@@ -21,7 +22,7 @@ pub struct Sheet {
     pub file: Vec<u8>,
 }
 
-/// What the Rust says of a sheet, and what document 01 asks for by checks 2 to 9.
+/// What the Rust says of a sheet, and what the documents ask for by checks 2 to 9 and 11.
 struct Asked {
     rust: Answer,
     listed: Result<Listing, u8>,
@@ -42,11 +43,12 @@ pub fn try_sheet(memory: &mut Memory, tally: &mut Tally, random: &mut Random, sh
     };
     let class = class(&sheet.file, &asked.rust, &asked.listed);
     tally.count_class(class);
+    tally.with_power += u64::from(has_power(&sheet.file));
     if let Ok(listing) = &asked.listed {
         tally.count_list(listing.operations.len(), listing.temporaries);
     }
     let told = try_call(memory, tally, random, sheet, &asked, FULL);
-    tally.numbers[told.number.min(10) as usize] += 1;
+    tally.numbers[told.number.min(LAST_NUMBER as u32) as usize] += 1;
     if class == Class::Unexplained {
         let answers = answers(&asked, memory, told);
         tally.count_unexplained(|| report(sheet, "the Rust's own answer", &answers));
@@ -55,6 +57,10 @@ pub fn try_sheet(memory: &mut Memory, tally: &mut Tally, random: &mut Random, sh
         let lending = Lending::any(random);
         try_call(memory, tally, random, sheet, &asked, lending);
     }
+}
+
+fn has_power(file: &[u8]) -> bool {
+    oracle::sheet::Sheet::read(file).is_ok_and(|sheet| sheet.count(Tree::is_power) > 0)
 }
 
 fn try_call(
@@ -86,7 +92,7 @@ fn report(sheet: &Sheet, what: &str, answers: &str) -> String {
     format!("unexplained, {}: {what}\n{file}\n{answers}", sheet.name)
 }
 
-/// The Rust's own answer, document 01's before lent words are looked at, and ours.
+/// The Rust's own answer, the documents' before lent words are looked at, and ours.
 fn answers(asked: &Asked, memory: &Memory, told: Numbers) -> String {
     let rust = match &asked.rust {
         Answer::Unreadable => "unreadable\n".to_string(),
@@ -98,5 +104,5 @@ fn answers(asked: &Asked, memory: &Memory, told: Numbers) -> String {
         Ok(listing) => listing.to_string(),
     };
     let ours: String = memory.output().chunks(6).map(|words| format!("{words:?}\n")).collect();
-    format!("the Rust:\n{rust}document 01:\n{due}here: {told:?}\n{ours}")
+    format!("the Rust:\n{rust}the documents:\n{due}here: {told:?}\n{ours}")
 }
