@@ -2,7 +2,7 @@
 """pinned.py: prints the rows of the table of words, crates/definitions/proofs/Pinned.antt, as this implementation answers."""
 from build import header, sheet, statement
 from refusals import A, B, OTHER, SUM, chain
-from sheet_model import CONST, IFELSE, LOAD, LOADMATH, NEED, RET, SAVE, TEMP, WORK_WORDS, answer, line
+from sheet_model import CONST, IFELSE, LOAD, LOADMATH, LOWEST_POWER, NEED, RET, SAVE, TEMP, WORK_WORDS, answer, line
 
 ROOM = 3  # words lent past a list, and to a refusal
 DIGITS = 100  # of a file on a line
@@ -20,6 +20,12 @@ LISTS = [
         ("s0", ("times", ("minus", "m258", "c3"), "p2")), ("s1", ("plus", "s5", ("divide", SUM, "c4"))), fused=True)),
     ("calls: a move to Left, an exchange, and moves both ways", sheet(
         ("s0", ("f", 255, ("neg", SUM))), ("s1", ("f", 7, A, B)), ("s2", ("f", 1, SUM, WIDE)), scratch=4, step=3)),
+    ("powers 6, 0 and -5, at register 1", sheet(
+        ("m4", ("powi", 6, SUM)), ("m5", ("powi", 0, SUM)), ("m6", ("powi", -5, SUM)))),
+    ("negative powers with flag 4, the reciprocal first but under a modulus", sheet(
+        ("m4", ("powi", -2, A)), ("m5", ("powmod", -2, A, B)), stable=True)),
+    ("powers under a modulus, narrow, wide and both stored", sheet(
+        ("m4", ("powmod", 6, SUM, "c1")), ("m5", ("powmod", 2, A, SUM)), ("m6", ("powmod", 1, SUM, OTHER)), scratch=2)),
 ]
 
 # Number, title, file, words of work, words of output.
@@ -34,6 +40,7 @@ REFUSALS = [
     (8, "two wide arguments", sheet(("s0", ("f", 7, SUM, OTHER)), scratch=2), WORK_WORDS, ROOM),
     (9, "temporaries past the last index", sheet(("s0", WIDE), scratch=2, first=65535), WORK_WORDS, ROOM),
     (10, "a word of output too few", sheet(ONE), WORK_WORDS, 17),
+    (11, "the lowest power under a modulus", sheet(("s0", ("powmod", LOWEST_POWER, A, B))), WORK_WORDS, ROOM),
 ]
 
 

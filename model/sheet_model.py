@@ -1,4 +1,4 @@
-"""Document 01 as a program, with T-01 and T-02 of document 02: from the bytes of a spacing sheet to its answer and its printed text.
+"""Document 01 as a program, with T-01 and T-02 of document 02: from the bytes of a spacing sheet to its answer and its text.
 
 Written from the words of the documents, in their order, to be read beside them. Nothing here is fast or clever.
 A place is (kind, index); the n-th temporary is (TEMPORARY, n) until its stack index is needed.

@@ -6,6 +6,7 @@ from itertools import groupby
 from typing import NamedTuple
 
 import forms
+import powers
 import refusals
 from build import damaged, random_sheet, sheet
 from marked import MARKED, MISTAKES
@@ -63,7 +64,7 @@ def mistake_vectors():
 
 
 def refusal_vectors():
-    for group in refusals.GROUPS:
+    for group in (*refusals.GROUPS, *powers.REFUSED):
         for title, file, expected, *lent in group():
             made = vector(title, file, *lent)
             start = f"refused {expected}\n" if expected else "ops "
@@ -104,6 +105,21 @@ def room_vectors():
     yield made
 
 
+def power_vectors():
+    for group in powers.ACCEPTED:
+        for title, file, operations, temporaries in group():
+            made = vector(title, file)
+            result = answer(file)
+            need(result.number == 0 and operations in (None, result.operations), title)
+            need(temporaries in (None, result.temporaries), title)
+            yield made
+    for title, file, operations in powers.LONG:
+        made = vector(f"{title}, {operations} operations", file)
+        need(answer(file, out_words=6 * operations).operations == operations, title)
+        need(made.expected.startswith("ops " if 6 * operations <= OUT_WORDS else "refused 10\n"), title)
+        yield made
+
+
 def random_vectors():
     rng = random.Random(1958)
     for turn in range(150):
@@ -112,10 +128,14 @@ def random_vectors():
         yield vector(f"damaged random sheet {turn}", damaged(rng, random_sheet(rng, 20)))
     for turn in range(3):
         yield vector(f"large random sheet {turn}", random_sheet(rng, 1000))
+    for turn in range(12):
+        yield vector(f"random sheet with powers {turn}", random_sheet(rng, rng.choice((6, 10, 20)), 0.3))
+    for turn in range(15):
+        yield vector(f"damaged random sheet with powers {turn}", damaged(rng, random_sheet(rng, 10, 0.5)))
 
 
 def all_vectors():
-    for group in (marked_vectors, mistake_vectors, refusal_vectors, room_vectors, form_vectors, random_vectors):
+    for group in (marked_vectors, mistake_vectors, refusal_vectors, room_vectors, form_vectors, power_vectors, random_vectors):
         yield from group()
 
 
