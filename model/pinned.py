@@ -1,7 +1,7 @@
 #!/usr/bin/env -S python3 -B
 """pinned.py: prints the rows of the table of words, crates/definitions/proofs/Pinned.antt, as this implementation answers."""
 from build import header, sheet, statement
-from refusals import A, B, OTHER, SUM, chain
+from refusals import A, B, C, OTHER, SUM, chain
 from sheet_model import CONST, IFELSE, LOAD, LOADMATH, LOWEST_POWER, NEED, RET, SAVE, TEMP, WORK_WORDS, answer, line
 
 ROOM = 3  # words lent past a list, and to a refusal
@@ -20,12 +20,12 @@ LISTS = [
         ("s0", ("times", ("minus", "m258", "c3"), "p2")), ("s1", ("plus", "s5", ("divide", SUM, "c4"))), fused=True)),
     ("calls: a move to Left, an exchange, and moves both ways", sheet(
         ("s0", ("f", 255, ("neg", SUM))), ("s1", ("f", 7, A, B)), ("s2", ("f", 1, SUM, WIDE)), scratch=4, step=3)),
-    ("powers 6, 0 and -5, at register 1", sheet(
-        ("m4", ("powi", 6, SUM)), ("m5", ("powi", 0, SUM)), ("m6", ("powi", -5, SUM)))),
-    ("negative powers with flag 4, the reciprocal first but under a modulus", sheet(
-        ("m4", ("powi", -2, A)), ("m5", ("powmod", -2, A, B)), stable=True)),
-    ("powers under a modulus, narrow, wide and both stored", sheet(
-        ("m4", ("powmod", 6, SUM, "c1")), ("m5", ("powmod", 2, A, SUM)), ("m6", ("powmod", 1, SUM, OTHER)), scratch=2)),
+    ("powers: digits above the lowest, closing squarings, x / x, the move alone, and the reciprocal last", sheet(
+        ("s0", ("powi", 44, SUM)), ("s1", ("powi", 0, A)), ("s2", ("powi", 1, A)), ("s3", ("powi", -3, A)))),
+    ("with stable_math the reciprocal first, but last under a modulus; the lowest power", sheet(
+        ("s0", ("powi", -1, SUM)), ("s1", ("powmod", -2, A, B)), ("s2", ("powi", LOWEST_POWER, A)), stable=True)),
+    ("under a modulus a rem after every product; a wide modulus is stored, and both sides where both are wide", sheet(
+        ("s0", ("powmod", 6, SUM, C)), ("s1", ("powmod", -2, A, SUM)), ("s2", ("powmod", 0, SUM, OTHER)), scratch=2)),
 ]
 
 # Number, title, file, words of work, words of output.

@@ -10,8 +10,8 @@ use borrow.Author.Tests.{ne-eqb}
 use Rattle.limits.specs.Limits.{temporaryLimit}
 use Rattle.symbol.specs.declared.Loc.{Loc}
 use Rattle.operation.specs.Operators.{isFunction1, isFunction2}
-use Rattle.operation.specs.declared.One.the-variants.{Unary, Function1}
-use Rattle.operation.specs.declared.Two.the-variants.{Binary, Choice, Function2}
+use Rattle.operation.specs.declared.One.the-variants.{Unary, Power, Function1}
+use Rattle.operation.specs.declared.Two.the-variants.{Binary, Choice, PowerMod, Function2}
 use Rattle.definitions.specs.Tree.{Tree, constant, variable, one, two}
 use Rattle.definitions.specs.Same.{same}
 use Rattle.definitions.specs.Trim.{firstOf, seek}
@@ -65,9 +65,11 @@ unfolding seek
 seek-made t h p (constant k) = rw (function-differs (constant k) t refl h) refl
 seek-made t h p (variable q) = rw (function-differs (variable q) t refl h) refl
 seek-made t h p (one (Unary c) a) = rw (function-differs (one (Unary c) a) t refl h) refl
+seek-made t h p (one (Power s w) a) = rw (function-differs (one (Power s w) a) t refl h) refl
 seek-made t h p (one (Function1 f) a) = refl
 seek-made t h p (two (Binary c) l r) = rw (function-differs (two (Binary c) l r) t refl h) refl
 seek-made t h p (two (Choice q) l r) = rw (function-differs (two (Choice q) l r) t refl h) refl
+seek-made t h p (two (PowerMod w) l r) = rw (function-differs (two (PowerMod w) l r) t refl h) refl
 seek-made t h p (two (Function2 f) l r) = refl
 
 -- ---- a row that makes a call

@@ -4,6 +4,7 @@ use Prim.Native.String.{String, [] as empty, _∷_ as prepend}
 use mathlib.Core.Bool.{Bool, true, false, cond, _&&_}
 use mathlib.Core.List.{List, [], _∷_}
 use lib.Dec.{eqb, leb}
+use lib.Count.{trailingZeros}
 use Rattle.symbol.specs.Place.{samePlace}
 use Rattle.operation.specs.Codes.{commutes, fusesRight, fusesLeft, unaryForm, binaryForm}
 use Rattle.operation.specs.Names.{bytes}
@@ -14,7 +15,8 @@ use Rattle.definitions.specs.Sheet.{statementsAt, statementAt, treeAt, p
 use Rattle.definitions.specs.Eliminate.{textsOf, walkAll, walk, note, eliminate, rewrite, find, holds}
 use Rattle.definitions.specs.Trim.{trimAll, trim, seek, tooWide}
 use Rattle.definitions.specs.Operations.{opWords, listWords}
-use Rattle.definitions.specs.Emit.{emitAll, statementOps, evaluate, plan, setupBinary}
+use Rattle.definitions.specs.Power.{signedOf, digits, digitsIn, higher, gatherOps, squareOps, positiveOps}
+use Rattle.definitions.specs.Emit.{emitAll, statementOps, evaluate, plan, setupBinary, powerOps}
 use Rattle.definitions.specs.Answer.{Answer, answer, temporaryCount, trimmed, eliminated}
 
 -- bytes from hexadecimal digits, two a byte
@@ -37,6 +39,7 @@ unfoldable pub answerTo : (sheet : String) (work room : ℕ) → Answer
 unfolding fromDigits bytes samePlace commutes fusesRight fusesLeft unaryForm binaryForm ershov weight depth same among
     sheetOf fileFits headerFits pairsFit pairs pairsFrom inOrder statementsAt statementAt treeAt placeAt
     textsOf walkAll walk note eliminate rewrite find holds trimAll trim seek tooWide opWords listWords
+    signedOf trailingZeros digits digitsIn higher gatherOps squareOps positiveOps powerOps
     emitAll statementOps evaluate plan setupBinary answer temporaryCount trimmed eliminated
 answerTo sheet work room = answer (fromDigits (bytes sheet)) work room
 

@@ -1,5 +1,5 @@
 -- Sheets and their answers, every word as a number: every kind, Temp and Ret, every register field, every kind of place, unused
--- words zero, and each refusal. The numbers are the second implementation's (model/pinned.py), and held to it by tests/vectors.
+-- words zero, powers, and each refusal. The numbers are the second implementation's (model/pinned.py), and held to it by tests/vectors.
 use Prim.Native.Nat.{ℕ}
 use Prim.Native.String.{String}
 use mathlib.Core.Path.{_≡_, refl}
@@ -74,7 +74,8 @@ table =
     3 ∷ 0 ∷ 0 ∷ 1 ∷ 0 ∷ 131075 ∷  -- save r1 m3
     0 ∷ 0 ∷ 0 ∷ [])
     -- rem through Ret, its sides in either order
-    ∷ answers ("0400010002000a00100013002300120001000004050202000004010202000002020100010100040504010202000002020100" ++ "01ffff")
+    ∷ answers ("0400010002000a00100013002300120001000004050202000004010202000002020100010100040504010202000002020100"
+    ++ "01ffff")
     16384 123 0 20 0
     (12 ∷ 2 ∷ 0 ∷ 0 ∷ 0 ∷ 0 ∷  -- need 2
     2 ∷ 0 ∷ 1 ∷ 0 ∷ 0 ∷ 131072 ∷  -- load r1 m0
@@ -156,6 +157,148 @@ table =
     2 ∷ 0 ∷ 0 ∷ 0 ∷ 0 ∷ 65552 ∷  -- load r0 s16
     3 ∷ 0 ∷ 0 ∷ 0 ∷ 0 ∷ 65538 ∷  -- save r0 s2
     0 ∷ 0 ∷ 0 ∷ [])
+    -- powers: digits above the lowest, closing squarings, x / x, the move alone, and the reciprocal last
+    ∷ answers ("0400010004000a00180012002a000c0036000c0042000c00010000082c000000040102020000020201000101000800000000"
+    ++ "0202000001020008010000000202000001030008fdffffff02020000")
+    16384 171 0 28 0
+    (12 ∷ 2 ∷ 0 ∷ 0 ∷ 0 ∷ 0 ∷  -- need 2
+    2 ∷ 0 ∷ 1 ∷ 0 ∷ 0 ∷ 131072 ∷  -- load r1 m0
+    2 ∷ 0 ∷ 0 ∷ 0 ∷ 0 ∷ 131073 ∷  -- load r0 m1
+    7 ∷ 1 ∷ 1 ∷ 1 ∷ 0 ∷ 0 ∷  -- bi plus r1 r1 r0
+    4 ∷ 0 ∷ 1 ∷ 1 ∷ 0 ∷ 0 ∷  -- move r1 r1
+    7 ∷ 3 ∷ 254 ∷ 1 ∷ 1 ∷ 0 ∷  -- bi times t r1 r1
+    7 ∷ 3 ∷ 1 ∷ 1 ∷ 254 ∷ 0 ∷  -- bi times r1 r1 t
+    7 ∷ 3 ∷ 254 ∷ 254 ∷ 254 ∷ 0 ∷  -- bi times t t t
+    7 ∷ 3 ∷ 254 ∷ 254 ∷ 254 ∷ 0 ∷  -- bi times t t t
+    7 ∷ 3 ∷ 1 ∷ 1 ∷ 254 ∷ 0 ∷  -- bi times r1 r1 t
+    7 ∷ 3 ∷ 1 ∷ 1 ∷ 1 ∷ 0 ∷  -- bi times r1 r1 r1
+    7 ∷ 3 ∷ 1 ∷ 1 ∷ 1 ∷ 0 ∷  -- bi times r1 r1 r1
+    3 ∷ 0 ∷ 0 ∷ 1 ∷ 0 ∷ 65536 ∷  -- save r1 s0
+    12 ∷ 1 ∷ 0 ∷ 0 ∷ 0 ∷ 0 ∷  -- need 1
+    2 ∷ 0 ∷ 0 ∷ 0 ∷ 0 ∷ 131072 ∷  -- load r0 m0
+    7 ∷ 4 ∷ 0 ∷ 0 ∷ 0 ∷ 0 ∷  -- bi divide r0 r0 r0
+    3 ∷ 0 ∷ 0 ∷ 0 ∷ 0 ∷ 65537 ∷  -- save r0 s1
+    12 ∷ 1 ∷ 0 ∷ 0 ∷ 0 ∷ 0 ∷  -- need 1
+    2 ∷ 0 ∷ 0 ∷ 0 ∷ 0 ∷ 131072 ∷  -- load r0 m0
+    4 ∷ 0 ∷ 0 ∷ 0 ∷ 0 ∷ 0 ∷  -- move r0 r0
+    3 ∷ 0 ∷ 0 ∷ 0 ∷ 0 ∷ 65538 ∷  -- save r0 s2
+    12 ∷ 1 ∷ 0 ∷ 0 ∷ 0 ∷ 0 ∷  -- need 1
+    2 ∷ 0 ∷ 0 ∷ 0 ∷ 0 ∷ 131072 ∷  -- load r0 m0
+    4 ∷ 0 ∷ 0 ∷ 0 ∷ 0 ∷ 0 ∷  -- move r0 r0
+    7 ∷ 3 ∷ 254 ∷ 0 ∷ 0 ∷ 0 ∷  -- bi times t r0 r0
+    7 ∷ 3 ∷ 0 ∷ 0 ∷ 254 ∷ 0 ∷  -- bi times r0 r0 t
+    6 ∷ 11 ∷ 0 ∷ 0 ∷ 0 ∷ 0 ∷  -- uni recip r0 r0
+    3 ∷ 0 ∷ 0 ∷ 0 ∷ 0 ∷ 65539 ∷  -- save r0 s3
+    0 ∷ 0 ∷ 0 ∷ [])
+    -- with stable_math the reciprocal first, but last under a modulus; the lowest power
+    ∷ answers ("0404010003000a00140012002600100036000c0001000008ffffffff0401020200000202010001010009feffffff02020000"
+    ++ "02020100010200080000008002020000")
+    16384 303 0 50 0
+    (12 ∷ 2 ∷ 0 ∷ 0 ∷ 0 ∷ 0 ∷  -- need 2
+    2 ∷ 0 ∷ 1 ∷ 0 ∷ 0 ∷ 131072 ∷  -- load r1 m0
+    2 ∷ 0 ∷ 0 ∷ 0 ∷ 0 ∷ 131073 ∷  -- load r0 m1
+    7 ∷ 1 ∷ 1 ∷ 1 ∷ 0 ∷ 0 ∷  -- bi plus r1 r1 r0
+    6 ∷ 11 ∷ 1 ∷ 1 ∷ 0 ∷ 0 ∷  -- uni recip r1 r1
+    4 ∷ 0 ∷ 1 ∷ 1 ∷ 0 ∷ 0 ∷  -- move r1 r1
+    3 ∷ 0 ∷ 0 ∷ 1 ∷ 0 ∷ 65536 ∷  -- save r1 s0
+    12 ∷ 2 ∷ 0 ∷ 0 ∷ 0 ∷ 0 ∷  -- need 2
+    2 ∷ 0 ∷ 1 ∷ 0 ∷ 0 ∷ 131072 ∷  -- load r1 m0
+    2 ∷ 0 ∷ 0 ∷ 0 ∷ 0 ∷ 131073 ∷  -- load r0 m1
+    4 ∷ 0 ∷ 1 ∷ 1 ∷ 0 ∷ 0 ∷  -- move r1 r1
+    7 ∷ 3 ∷ 1 ∷ 1 ∷ 1 ∷ 0 ∷  -- bi times r1 r1 r1
+    6 ∷ 11 ∷ 1 ∷ 1 ∷ 0 ∷ 0 ∷  -- uni recip r1 r1
+    3 ∷ 0 ∷ 0 ∷ 1 ∷ 0 ∷ 65537 ∷  -- save r1 s1
+    12 ∷ 1 ∷ 0 ∷ 0 ∷ 0 ∷ 0 ∷  -- need 1
+    2 ∷ 0 ∷ 0 ∷ 0 ∷ 0 ∷ 131072 ∷  -- load r0 m0
+    6 ∷ 11 ∷ 0 ∷ 0 ∷ 0 ∷ 0 ∷  -- uni recip r0 r0
+    4 ∷ 0 ∷ 0 ∷ 0 ∷ 0 ∷ 0 ∷  -- move r0 r0
+    7 ∷ 3 ∷ 0 ∷ 0 ∷ 0 ∷ 0 ∷  -- bi times r0 r0 r0
+    7 ∷ 3 ∷ 0 ∷ 0 ∷ 0 ∷ 0 ∷  -- bi times r0 r0 r0
+    7 ∷ 3 ∷ 0 ∷ 0 ∷ 0 ∷ 0 ∷  -- bi times r0 r0 r0
+    7 ∷ 3 ∷ 0 ∷ 0 ∷ 0 ∷ 0 ∷  -- bi times r0 r0 r0
+    7 ∷ 3 ∷ 0 ∷ 0 ∷ 0 ∷ 0 ∷  -- bi times r0 r0 r0
+    7 ∷ 3 ∷ 0 ∷ 0 ∷ 0 ∷ 0 ∷  -- bi times r0 r0 r0
+    7 ∷ 3 ∷ 0 ∷ 0 ∷ 0 ∷ 0 ∷  -- bi times r0 r0 r0
+    7 ∷ 3 ∷ 0 ∷ 0 ∷ 0 ∷ 0 ∷  -- bi times r0 r0 r0
+    7 ∷ 3 ∷ 0 ∷ 0 ∷ 0 ∷ 0 ∷  -- bi times r0 r0 r0
+    7 ∷ 3 ∷ 0 ∷ 0 ∷ 0 ∷ 0 ∷  -- bi times r0 r0 r0
+    7 ∷ 3 ∷ 0 ∷ 0 ∷ 0 ∷ 0 ∷  -- bi times r0 r0 r0
+    7 ∷ 3 ∷ 0 ∷ 0 ∷ 0 ∷ 0 ∷  -- bi times r0 r0 r0
+    7 ∷ 3 ∷ 0 ∷ 0 ∷ 0 ∷ 0 ∷  -- bi times r0 r0 r0
+    7 ∷ 3 ∷ 0 ∷ 0 ∷ 0 ∷ 0 ∷  -- bi times r0 r0 r0
+    7 ∷ 3 ∷ 0 ∷ 0 ∷ 0 ∷ 0 ∷  -- bi times r0 r0 r0
+    7 ∷ 3 ∷ 0 ∷ 0 ∷ 0 ∷ 0 ∷  -- bi times r0 r0 r0
+    7 ∷ 3 ∷ 0 ∷ 0 ∷ 0 ∷ 0 ∷  -- bi times r0 r0 r0
+    7 ∷ 3 ∷ 0 ∷ 0 ∷ 0 ∷ 0 ∷  -- bi times r0 r0 r0
+    7 ∷ 3 ∷ 0 ∷ 0 ∷ 0 ∷ 0 ∷  -- bi times r0 r0 r0
+    7 ∷ 3 ∷ 0 ∷ 0 ∷ 0 ∷ 0 ∷  -- bi times r0 r0 r0
+    7 ∷ 3 ∷ 0 ∷ 0 ∷ 0 ∷ 0 ∷  -- bi times r0 r0 r0
+    7 ∷ 3 ∷ 0 ∷ 0 ∷ 0 ∷ 0 ∷  -- bi times r0 r0 r0
+    7 ∷ 3 ∷ 0 ∷ 0 ∷ 0 ∷ 0 ∷  -- bi times r0 r0 r0
+    7 ∷ 3 ∷ 0 ∷ 0 ∷ 0 ∷ 0 ∷  -- bi times r0 r0 r0
+    7 ∷ 3 ∷ 0 ∷ 0 ∷ 0 ∷ 0 ∷  -- bi times r0 r0 r0
+    7 ∷ 3 ∷ 0 ∷ 0 ∷ 0 ∷ 0 ∷  -- bi times r0 r0 r0
+    7 ∷ 3 ∷ 0 ∷ 0 ∷ 0 ∷ 0 ∷  -- bi times r0 r0 r0
+    7 ∷ 3 ∷ 0 ∷ 0 ∷ 0 ∷ 0 ∷  -- bi times r0 r0 r0
+    7 ∷ 3 ∷ 0 ∷ 0 ∷ 0 ∷ 0 ∷  -- bi times r0 r0 r0
+    7 ∷ 3 ∷ 0 ∷ 0 ∷ 0 ∷ 0 ∷  -- bi times r0 r0 r0
+    7 ∷ 3 ∷ 0 ∷ 0 ∷ 0 ∷ 0 ∷  -- bi times r0 r0 r0
+    3 ∷ 0 ∷ 0 ∷ 0 ∷ 0 ∷ 65538 ∷  -- save r0 s2
+    0 ∷ 0 ∷ 0 ∷ [])
+    -- under a modulus a rem after every product; a wide modulus is stored, and both sides where both are wide
+    ∷ answers ("0200010003000a00140016002a00160040001c000100000906000000040102020000020201000202020001010009feffffff"
+    ++ "020200000401020200000202010001020009000000000401020200000202010004010202020002020300")
+    16384 297 0 49 3
+    (12 ∷ 2 ∷ 0 ∷ 0 ∷ 0 ∷ 0 ∷  -- need 2
+    2 ∷ 0 ∷ 1 ∷ 0 ∷ 0 ∷ 131072 ∷  -- load r1 m0
+    2 ∷ 0 ∷ 0 ∷ 0 ∷ 0 ∷ 131073 ∷  -- load r0 m1
+    7 ∷ 1 ∷ 1 ∷ 1 ∷ 0 ∷ 0 ∷  -- bi plus r1 r1 r0
+    2 ∷ 0 ∷ 0 ∷ 0 ∷ 0 ∷ 131074 ∷  -- load r0 m2
+    4 ∷ 0 ∷ 1 ∷ 1 ∷ 0 ∷ 0 ∷  -- move r1 r1
+    7 ∷ 3 ∷ 254 ∷ 1 ∷ 1 ∷ 0 ∷  -- bi times t r1 r1
+    7 ∷ 4 ∷ 255 ∷ 254 ∷ 0 ∷ 0 ∷  -- bi divide v t r0
+    6 ∷ 13 ∷ 255 ∷ 255 ∷ 0 ∷ 0 ∷  -- uni floor v v
+    7 ∷ 3 ∷ 255 ∷ 255 ∷ 0 ∷ 0 ∷  -- bi times v v r0
+    7 ∷ 2 ∷ 254 ∷ 254 ∷ 255 ∷ 0 ∷  -- bi minus t t v
+    7 ∷ 3 ∷ 1 ∷ 1 ∷ 254 ∷ 0 ∷  -- bi times r1 r1 t
+    7 ∷ 4 ∷ 255 ∷ 1 ∷ 0 ∷ 0 ∷  -- bi divide v r1 r0
+    6 ∷ 13 ∷ 255 ∷ 255 ∷ 0 ∷ 0 ∷  -- uni floor v v
+    7 ∷ 3 ∷ 255 ∷ 255 ∷ 0 ∷ 0 ∷  -- bi times v v r0
+    7 ∷ 2 ∷ 1 ∷ 1 ∷ 255 ∷ 0 ∷  -- bi minus r1 r1 v
+    7 ∷ 3 ∷ 1 ∷ 1 ∷ 1 ∷ 0 ∷  -- bi times r1 r1 r1
+    7 ∷ 4 ∷ 255 ∷ 1 ∷ 0 ∷ 0 ∷  -- bi divide v r1 r0
+    6 ∷ 13 ∷ 255 ∷ 255 ∷ 0 ∷ 0 ∷  -- uni floor v v
+    7 ∷ 3 ∷ 255 ∷ 255 ∷ 0 ∷ 0 ∷  -- bi times v v r0
+    7 ∷ 2 ∷ 1 ∷ 1 ∷ 255 ∷ 0 ∷  -- bi minus r1 r1 v
+    3 ∷ 0 ∷ 0 ∷ 1 ∷ 0 ∷ 65536 ∷  -- save r1 s0
+    12 ∷ 2 ∷ 0 ∷ 0 ∷ 0 ∷ 0 ∷  -- need 2
+    2 ∷ 0 ∷ 1 ∷ 0 ∷ 0 ∷ 131072 ∷  -- load r1 m0
+    2 ∷ 0 ∷ 0 ∷ 0 ∷ 0 ∷ 131073 ∷  -- load r0 m1
+    7 ∷ 1 ∷ 1 ∷ 1 ∷ 0 ∷ 0 ∷  -- bi plus r1 r1 r0
+    3 ∷ 0 ∷ 0 ∷ 1 ∷ 0 ∷ 65546 ∷  -- save r1 s10
+    12 ∷ 2 ∷ 0 ∷ 0 ∷ 0 ∷ 0 ∷  -- need 2
+    2 ∷ 0 ∷ 1 ∷ 0 ∷ 0 ∷ 131072 ∷  -- load r1 m0
+    2 ∷ 0 ∷ 0 ∷ 0 ∷ 0 ∷ 65546 ∷  -- load r0 s10
+    4 ∷ 0 ∷ 1 ∷ 1 ∷ 0 ∷ 0 ∷  -- move r1 r1
+    7 ∷ 3 ∷ 1 ∷ 1 ∷ 1 ∷ 0 ∷  -- bi times r1 r1 r1
+    6 ∷ 11 ∷ 1 ∷ 1 ∷ 0 ∷ 0 ∷  -- uni recip r1 r1
+    3 ∷ 0 ∷ 0 ∷ 1 ∷ 0 ∷ 65537 ∷  -- save r1 s1
+    12 ∷ 2 ∷ 0 ∷ 0 ∷ 0 ∷ 0 ∷  -- need 2
+    2 ∷ 0 ∷ 1 ∷ 0 ∷ 0 ∷ 131072 ∷  -- load r1 m0
+    2 ∷ 0 ∷ 0 ∷ 0 ∷ 0 ∷ 131073 ∷  -- load r0 m1
+    7 ∷ 1 ∷ 1 ∷ 1 ∷ 0 ∷ 0 ∷  -- bi plus r1 r1 r0
+    3 ∷ 0 ∷ 0 ∷ 1 ∷ 0 ∷ 65547 ∷  -- save r1 s11
+    12 ∷ 2 ∷ 0 ∷ 0 ∷ 0 ∷ 0 ∷  -- need 2
+    2 ∷ 0 ∷ 1 ∷ 0 ∷ 0 ∷ 131074 ∷  -- load r1 m2
+    2 ∷ 0 ∷ 0 ∷ 0 ∷ 0 ∷ 131075 ∷  -- load r0 m3
+    7 ∷ 1 ∷ 1 ∷ 1 ∷ 0 ∷ 0 ∷  -- bi plus r1 r1 r0
+    3 ∷ 0 ∷ 0 ∷ 1 ∷ 0 ∷ 65548 ∷  -- save r1 s12
+    12 ∷ 2 ∷ 0 ∷ 0 ∷ 0 ∷ 0 ∷  -- need 2
+    2 ∷ 0 ∷ 1 ∷ 0 ∷ 0 ∷ 65547 ∷  -- load r1 s11
+    2 ∷ 0 ∷ 0 ∷ 0 ∷ 0 ∷ 65548 ∷  -- load r0 s12
+    7 ∷ 4 ∷ 1 ∷ 1 ∷ 1 ∷ 0 ∷  -- bi divide r1 r1 r1
+    3 ∷ 0 ∷ 0 ∷ 1 ∷ 0 ∷ 65538 ∷  -- save r1 s2
+    0 ∷ 0 ∷ 0 ∷ [])
     -- 1: a word of work too few
     ∷ answers "0400010001000a000c00070001000002020000"
     16383 3 1 0 0
@@ -198,6 +341,10 @@ table =
     ∷ answers "0400010001000a000c00070001000002020000"
     16384 17 10 0 0
     (0 ∷ 0 ∷ 0 ∷ 0 ∷ 0 ∷ 0 ∷ 0 ∷ 0 ∷ 0 ∷ 0 ∷ 0 ∷ 0 ∷ 0 ∷ 0 ∷ 0 ∷ 0 ∷ 0 ∷ [])
+    -- 11: the lowest power under a modulus
+    ∷ answers "0400010001000a000c00100001000009000000800202000002020100"
+    16384 3 11 0 0
+    (0 ∷ 0 ∷ 0 ∷ [])
     ∷ []
 
 pub words-are-pinned : allOf table ≡ true

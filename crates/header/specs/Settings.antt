@@ -1,10 +1,10 @@
--- A sheet's header as the code has it: document 01, 'The sheet and the list'.
+-- A sheet's header as the code has it: document 01, 'The sheet and the list'; T-02.
 use mathlib.Core.List.{List}
 use Prim.Native.Nat.{ℕ, _+_, _*_, _<_, _≤_}
 use Rattle.limits.specs.Limits.{indexEnd}
 use Rattle.symbol.specs.declared.Loc.{Loc}
 use Rattle.symbol.specs.declared.Loc.the-variants.{Stack}
-use Rattle.definitions.specs.Sheet.{scratchCount, sharing, fused, step, firstTemporary, statementCount}
+use Rattle.definitions.specs.Sheet.{scratchCount, sharing, fused, stable, step, firstTemporary, statementCount}
 use Rattle.header.specs.declared.Header.{Header}
 
 -- the header of a file
@@ -14,6 +14,7 @@ headerOf file =
       scratch = scratchCount file;
       sharing = sharing file;
       fused = fused file;
+      stable = stable file;
       step = step file;
       first = firstTemporary file;
       count = statementCount file;

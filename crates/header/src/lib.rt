@@ -3,14 +3,15 @@ use symbol::Loc;
 ghost use mathlib.Core.Path.{_≡_};
 ghost use Prim.Native.Nat.{_+_, _<_, _≤_};
 ghost use lib.ListN.{length};
-ghost use Rattle.definitions.specs.Sheet.{number16 as numberAt, flag};
+ghost use Rattle.definitions.specs.Sheet.{number16 as numberAt, number32 as wordAt, flag};
 ghost use Rattle.header.specs.Settings.{headerOf, temporaryOf, Indexed};
 
-// The scratch count, both flags, the step between temporaries, the first one's index, and the statement count.
+// The scratch count, the flags, the step between temporaries, the first one's index, and the statement count.
 pub struct Header {
     pub scratch: u32,
     pub sharing: bool,
     pub fused: bool,
+    pub stable: bool,
     pub step: u32,
     pub first: u32,
     pub count: u32,
@@ -24,6 +25,15 @@ pub fn number16(s: &[u8], at: usize) -> u16
     let low = s[at] as u16;
     let high = s[at + 1] as u16;
     low + 256 * high
+}
+
+pub fn number32(s: &[u8], at: usize) -> u32
+    requires { ⌜ at + 3 < length (now s) ⌝ }
+    ensures { λ r. ⌜ r ≡ wordAt (now (s .entry)) at ⌝ }
+{
+    let low = number16(s, at);
+    let high = number16(s, at + 2);
+    low as u32 + 65536 * high as u32
 }
 
 fn wide(x: u8) -> u32
@@ -49,6 +59,7 @@ pub fn header_of(file: &[u8]) -> Header
         scratch: wide(file[0]),
         sharing: has_flag(file, 1),
         fused: has_flag(file, 2),
+        stable: has_flag(file, 4),
         step: wide(file[2]),
         first: first as u32,
         count: count as u32,

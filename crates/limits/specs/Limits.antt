@@ -9,17 +9,21 @@ workWords = 16384
 abbrev pub fileLimit : ℕ
 fileLimit = 16384
 
--- 'flags (1 sharing, 2 fused)': other bits begin here
+-- 'flags (1 sharing, 2 fused)'; T-02: 'the header's flag 4 is `stable_math`': other bits begin here
 abbrev pub flagsEnd : ℕ
-flagsEnd = 4
+flagsEnd = 8
 
 -- 'statement count n, at most 256'
 abbrev pub statementLimit : ℕ
 statementLimit = 256
 
--- the tags are 1 to 7
+-- the tags are 1 to 7; T-02: 'Add tag 8 ... and tag 9'
 abbrev pub lastTag : ℕ
-lastTag = 7
+lastTag = 9
+
+-- T-02: '11, power −2,147,483,648 under tag 9', as its word
+abbrev pub lowestPower : ℕ
+lowestPower = 0x8000_0000
 
 -- check 6: 'depth over 64, or more than 1,024 nodes in the sheet'
 abbrev pub depthLimit : ℕ
@@ -47,9 +51,9 @@ rowsLength = 3 * rowLimit
 abbrev pub temporaryLimit : ℕ
 temporaryLimit = nodeLimit + rowLimit
 
--- operations of a node at most
+-- operations of a node at most: those of the longest power under a modulus, 2^31 − 1
 abbrev pub opsPerNode : ℕ
-opsPerNode = 4
+opsPerNode = 301
 
 -- bytes of a printed line at most, and of an answer's text: its first line, and a line for each six words of output
 abbrev pub lineLimit : ℕ

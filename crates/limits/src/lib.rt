@@ -8,9 +8,12 @@ pub const WORK: usize = 16384;
 pub const BYTES: usize = 16384;
 
 // Where the flags end; the last tag.
-pub const FLAGS: u8 = 4;
+pub const FLAGS: u8 = 8;
 
-pub const LAST_TAG: u8 = 7;
+pub const LAST_TAG: u8 = 9;
+
+// The word of the lowest power, which has no size of 31 bits.
+pub const LOWEST_POWER: u32 = 0x8000_0000;
 
 // A sheet's statements and nodes.
 pub const STATEMENTS: usize = 256;

@@ -8,8 +8,8 @@ use Rattle.limits.specs.Limits.{depthLimit, nodeLimit, opsPerNode}
 use Rattle.symbol.specs.declared.Loc.{Loc}
 use Rattle.header.specs.declared.Header.{Header}
 use Rattle.header.specs.Settings.{temporaryOf}
-use Rattle.operation.specs.declared.One.the-variants.{Unary, Function1}
-use Rattle.operation.specs.declared.Two.the-variants.{Binary, Choice, Function2}
+use Rattle.operation.specs.declared.One.the-variants.{Unary, Power, Function1}
+use Rattle.operation.specs.declared.Two.the-variants.{Binary, Choice, PowerMod, Function2}
 use Rattle.definitions.specs.Tree.{Tree, variable, ershov}
 use Rattle.definitions.specs.Statement.{Statement, assign}
 use Rattle.definitions.specs.Operations.{Op, opLoad, opSave, opNeed, Ret}
@@ -64,9 +64,11 @@ module _ (fused : Bool) (p : Loc) where
   call-saves f i (Const k) = refl
   call-saves f i (Var q) = refl
   call-saves f i (UnaryNode (Unary c)) = refl
+  call-saves f i (UnaryNode (Power stable w)) = refl
   call-saves f i (UnaryNode (Function1 g)) = refl
   call-saves f i (BinaryNode (Binary c) r) = refl
   call-saves f i (BinaryNode (Choice q) r) = refl
+  call-saves f i (BinaryNode (PowerMod w) r) = refl
   call-saves f i (BinaryNode (Function2 g) r) = refl
 
 -- a node that was unpacked as n, and whether it is a function's

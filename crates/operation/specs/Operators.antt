@@ -1,15 +1,17 @@
--- Operators by kind: document 01, 'These codes and the choice are intrinsic; functions f0 to f255 are not'.
+-- Operators by kind: document 01, 'These codes and the choice are intrinsic; functions f0 to f255 are not'; T-02.
 use mathlib.Core.Bool.{Bool, true, false}
 use Rattle.operation.specs.declared.One.{One}
-use Rattle.operation.specs.declared.One.the-variants.{Unary, Function1}
+use Rattle.operation.specs.declared.One.the-variants.{Unary, Power, Function1}
 use Rattle.operation.specs.declared.Two.{Two}
-use Rattle.operation.specs.declared.Two.the-variants.{Binary, Choice, Function2}
+use Rattle.operation.specs.declared.Two.the-variants.{Binary, Choice, PowerMod, Function2}
 
 abbrev pub isFunction1 : One → Bool
 isFunction1 (Unary c) = false
+isFunction1 (Power stable w) = false
 isFunction1 (Function1 f) = true
 
 abbrev pub isFunction2 : Two → Bool
 isFunction2 (Binary c) = false
 isFunction2 (Choice p) = false
+isFunction2 (PowerMod w) = false
 isFunction2 (Function2 f) = true

@@ -1,42 +1,68 @@
--- Two trimmed sides joined: as they are, or stored in two temporaries where both need every register.
+-- Two trimmed sides joined: as they are, or some of them stored in temporaries.
 use mathlib.Core.Path.{_≡_}
 use Prim.Native.Nat.{ℕ, _+_, _*_, _<_, _≤_}
-use mathlib.Core.Bool.{Bool, true, false, _&&_}
 use mathlib.Core.List.{List}
 use lib.ListN.{length, set}
 use lib.Seq.{sets}
-use lib.Dec.{eqb}
 use Rattle.limits.specs.Limits.{nodeLimit, rowsLength, temporaryLimit}
-use Rattle.calls.specs.declared.Settings.{Settings}
 use Rattle.definitions.specs.Tree.{join}
+use Rattle.definitions.specs.Trim.{Storing, nothing, right, both}
 use Rattle.statement.specs.declared.Row.the-variants.{Kept}
 use Rattle.statement.specs.declared.State.{State}
 use Rattle.statement.specs.Rows.{RoomFor, rowWords}
 use Rattle.calls.specs.declared.Trimmed.{Trimmed as Answer}
-use Rattle.trim.specs.Trimming.{stateOf}
+use Rattle.trim.specs.declared.Storing.{Storing as Choice}
+use Rattle.trim.specs.declared.Storing.the-variants.{Nothing, Right, Both}
+use Rattle.trim.specs.Trimming.{stateOf, plainOf}
 
--- both sides need every register
-abbrev pub isFull : (h : Settings) (x y : ℕ) → Bool
-isFull h x y = eqb x (h .scratch) && eqb y (h .scratch)
+-- the definition's case of what the code chose
+abbrev pub meant : Choice → Storing
+meant Nothing = nothing
+meant Right = right
+meant Both = both
 
--- what joining the sides l and r may count on: room for two rows, where they are stored
-pub record JoinReady (h : Settings) (rs : List ℕ) (l r x : ℕ) (b : Answer) : Type 0 where
+-- how many temporaries it takes
+abbrev pub stores : Storing → ℕ
+stores nothing = 0
+stores right = 1
+stores both = 2
+
+-- what joining the sides l and r may count on: a row and a temporary for each that is stored
+pub record JoinReady (how : Storing) (rs : List ℕ) (l r x : ℕ) (b : Answer) : Type 0 where
   pub order : l < r
   pub within : r < nodeLimit
   pub small : x ≤ nodeLimit
   pub long : length rs ≤ rowsLength
-  pub room : isFull h x (b .ershov) ≡ true → RoomFor rs (b .count + 2) × (b .next + 2 ≤ temporaryLimit)
+  pub room : RoomFor rs (b .count + stores how)
+  pub names : b .next + stores how ≤ temporaryLimit
 
--- the trees of nodes l and r stored in two temporaries
-pub record SidesStored (l r : ℕ) (s : State) (ms rs ms′ rs′ : List ℕ) (z : Answer) : Type 0 where
-  pub middle : List ℕ
-  pub left : middle ≡ sets rs (3 * s .count) (rowWords (Kept (s .next) l))
-  pub right : rs′ ≡ sets middle (3 * (s .count + 1)) (rowWords (Kept (s .next + 1) r))
-  pub marks : ms′ ≡ set (set ms l (s .next + 1)) r (s .next + 2)
-  pub answer : z ≡ record { next = s .next + 2; count = s .count + 2; ershov = 2; temp = 0 }
+-- what storing the tree of node j may count on
+pub record KeepReady (j : ℕ) (rs : List ℕ) (s : State) : Type 0 where
+  pub within : j < nodeLimit
+  pub long : length rs ≤ rowsLength
+  pub room : RoomFor rs (s .count + 1)
+  pub names : s .next < temporaryLimit
 
-pub data SidesJoined (h : Settings) (l r x : ℕ) (b : Answer) (ms rs ms′ rs′ : List ℕ) (z : Answer) : Type 0 where
-  stored : isFull h x (b .ershov) ≡ true → SidesStored l r (stateOf b) ms rs ms′ rs′ z → SidesJoined h l r x b ms rs ms′ rs′ z
-  joined : isFull h x (b .ershov) ≡ false → ms′ ≡ ms → rs′ ≡ rs
-      → z ≡ record { next = b .next; count = b .count; ershov = join x (b .ershov); temp = 0 } →
-      SidesJoined h l r x b ms rs ms′ rs′ z
+abbrev pub later : State → State
+later s = record { next = s .next + 1; count = s .count + 1 }
+
+-- the tree of node j stored in a temporary
+pub record SideKept (j : ℕ) (s : State) (ms rs ms′ rs′ : List ℕ) : Type 0 where
+  pub put : rs′ ≡ sets rs (3 * s .count) (rowWords (Kept (s .next) j))
+  pub marks : ms′ ≡ set ms j (s .next + 1)
+
+-- those of nodes l and r, one after the other
+pub record SidesKept (l r : ℕ) (s : State) (ms rs ms′ rs′ : List ℕ) : Type 0 where
+  pub marks : List ℕ
+  pub words : List ℕ
+  pub left : SideKept l s ms rs marks words
+  pub right : SideKept r (later s) marks words ms′ rs′
+
+-- what was stored; the answer's Ershov number is that of the sides as they are left, and a temporary's is 1
+pub data SidesJoined (how : Storing) (l r x : ℕ) (b : Answer) (ms rs ms′ rs′ : List ℕ) (z : Answer) : Type 0 where
+  stayed : how ≡ nothing → ms′ ≡ ms → rs′ ≡ rs → z ≡ plainOf (stateOf b) (join x (b .ershov)) →
+      SidesJoined how l r x b ms rs ms′ rs′ z
+  keptRight : how ≡ right → SideKept r (stateOf b) ms rs ms′ rs′ → z ≡ plainOf (later (stateOf b)) (join x 1) →
+      SidesJoined how l r x b ms rs ms′ rs′ z
+  keptBoth : how ≡ both → SidesKept l r (stateOf b) ms rs ms′ rs′ → z ≡ plainOf (later (later (stateOf b))) 2 →
+      SidesJoined how l r x b ms rs ms′ rs′ z

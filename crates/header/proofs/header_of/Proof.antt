@@ -6,13 +6,15 @@ use Rattle.header.proofs.header_of.Tie as tie
 returns : tie.Need-returns
 returns c =
     let flags = c .before .before in
-    let counted = flags .before .before .before .before in
+    let first-flags = flags .before in
+    let counted = first-flags .before .before .before .before in
     rw (
       counted .before .number16 .ensures,
       counted .number162 .ensures,
-      flags .before .before .wide .ensures,
-      flags .before .has-flag .ensures,
-      flags .has-flag2 .ensures,
+      first-flags .before .before .wide .ensures,
+      first-flags .before .has-flag .ensures,
+      first-flags .has-flag2 .ensures,
+      flags .has-flag3 .ensures,
       c .wide2 .ensures,
     )
 
@@ -20,5 +22,5 @@ pub header-of-spec : {M : Type 1} → statement M
 header-of-spec =
     tie.close
     (tie.spec (λ c κs. search needs) (λ c κs. search needs) (λ c. search needs) (λ c κs. search needs)
-    (λ c κs. search needs) (λ c κs. search needs) (λ c. search needs) (λ c κs. search needs) (λ c. search needs)
-    (λ c. search needs) returns)
+    (λ c κs. search needs) (λ c κs. search needs) (λ c κs. search needs) (λ c. search needs) (λ c κs. search needs)
+    (λ c. search needs) (λ c. search needs) returns)

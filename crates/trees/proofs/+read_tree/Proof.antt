@@ -49,22 +49,25 @@ module _ (t : ℕ) where
     s = c .before .before .before
 
     abbrev below : TreeReader
-    below = treeAt (s .args .first) (s .args .left - 1) (s .args .s .now)
+    below = treeAt (s .args .stable) (s .args .first) (s .args .left - 1) (s .args .s .now)
 
     abbrev node : Read Node
-    node = nodeHead (s .args .first) (s .args .left) (s .args .s .now) (s .args .at) (s .args .n)
+    node = nodeHead (s .args .stable) (s .args .first) (s .args .left) (s .args .s .now) (s .args .at) (s .args .n)
 
     abbrev Within : Type 0
     Within = (0 < s .args .left) × (s .args .n < nodeLimit)
 
     within : {g : Head} → c .read-node .result ≡ g → HeadKept g → Within
-    within = kept-within (s .args .first) (s .args .s .now) (s .args .at) (s .args .n) (s .args .left) (c .read-node .ensures)
+    within =
+        kept-within (s .args .stable) (s .args .first) (s .args .s .now) (s .args .at) (s .args .n) (s .args .left)
+        (c .read-node .ensures)
 
     says : {g : Head} → c .read-node .result ≡ g → Says node g
     says = head-says node (c .read-node .ensures)
 
-    begins : treeAt (s .args .first) (s .args .left) (s .args .s .now) (s .args .at) (s .args .n) ≡ headTree below node (s .args .n)
-    begins = node-tree (s .args .first) (s .args .s .now) (s .args .at) (s .args .n) (s .args .left)
+    begins : treeAt (s .args .stable) (s .args .first) (s .args .left) (s .args .s .now) (s .args .at) (s .args .n)
+        ≡ headTree below node (s .args .n)
+    begins = node-tree (s .args .stable) (s .args .first) (s .args .s .now) (s .args .at) (s .args .n) (s .args .left)
 
   -- the limits: at a leaf's tag, over one tree, over two, and at the second of them
   within0 : (c : lts.After-known-told (claims t) (read-tree-at t) read-tree.Post) → Within (c .before .before .before)

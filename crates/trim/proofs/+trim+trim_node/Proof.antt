@@ -8,7 +8,7 @@ use borrow.Fn.PlainCycle.{Measures, is, falls, and}
 use Rattle.limits.specs.Limits.{depthLimit}
 use Rattle.node.proofs.Nodes.{laid-room}
 use Rattle.trim.specs.Trimming.{progress}
-use Rattle.trim.proofs.Trimming.{view-leaf, view-marks, const-leaf, var-leaf, ready-node, handed-on}
+use Rattle.trim.proofs.Trimming.{view-leaf, view-marks, const-leaf, var-leaf, ready-node, handed-on, plain-trimmed}
 use Rattle.trim.proofs.Calling.{call-ready, call-trimmed}
 use Rattle.trim.proofs.OneSide.{SideTrimmed, ready-one, called-one, calling-one, unary-trimmed}
 use Rattle.trim.proofs.TwoSides.{SidesTrimmed, sides, ready-left, ready-right, called-two, calling-two}
@@ -24,7 +24,8 @@ use Rattle.operation.proofs.is_function1.Reads as is-function1-reads
 use Rattle.operation.proofs.is_function2.Reads as is-function2-reads
 use Rattle.calls.proofs.break_call.Reads as break-call-reads
 use Rattle.trim.proofs.join_sides.Reads as join-sides-reads
-use Rattle.trim.proofs.leaf.Reads as leaf-reads
+use Rattle.trim.proofs.plain.Reads as plain-reads
+use Rattle.trim.proofs.sides_to_store.Reads as sides-to-store-reads
 use Rattle.trim.proofs.state_of.Reads as state-of-reads
 use Rattle.trim.proofs.+trim+trim_node.{statement}
 use Rattle.trim.proofs.+trim+trim_node.Tie.{close}
@@ -54,8 +55,8 @@ abbrev trim-node-claims : ℕ → trim-node-lts.Claims
 trim-node-claims t = (
   unpack-reads.Asked,
   unpack-reads.Learnt,
-  leaf-reads.Asked,
-  leaf-reads.Learnt,
+  plain-reads.Asked,
+  plain-reads.Learnt,
   trim-below t,
   trim.Post,
   is-function1-reads.Asked,
@@ -66,6 +67,8 @@ trim-node-claims t = (
   break-call-reads.Learnt,
   is-function2-reads.Asked,
   is-function2-reads.Learnt,
+  sides-to-store-reads.Asked,
+  sides-to-store-reads.Learnt,
   join-sides-reads.Asked,
   join-sides-reads.Learnt,
 )
@@ -99,13 +102,13 @@ const-returns : (t : ℕ) → trim-node-lts.Need-returns-3 (trim-node-claims t) 
 const-returns t c =
     let unpacked = c .before .before .before in
     let start = unpacked .before .before .before in
-    const-leaf (start .pre .1) (unpacked .unpack .ensures) (c .leaf .ensures) (c .before .enum-told .given .1)
+    const-leaf (start .pre .1) (unpacked .unpack .ensures) (c .plain .ensures) (c .before .enum-told .given .1)
 
 var-returns : (t : ℕ) → trim-node-lts.Need-returns-4 (trim-node-claims t) (trim-node-at t) trim-node.Post
 var-returns t c =
     let unpacked = c .before .before .before in
     let start = unpacked .before .before .before in
-    var-leaf (start .pre .1) (unpacked .unpack .ensures) (c .leaf2 .ensures) (c .before .enum-told2 .given .1)
+    var-leaf (start .pre .1) (unpacked .unpack .ensures) (c .plain2 .ensures) (c .before .enum-told2 .given .1)
 
 -- ---- over one side
 
@@ -113,7 +116,10 @@ abbrev SideDone : ℕ → Type 0
 SideDone t = trim-node-lts.After-trim (trim-node-claims t) (trim-node-at t) trim-node.Post
 
 abbrev side-start : (t : ℕ) → SideDone t → trim-node-lts.Start (trim-node-claims t) (trim-node-at t) trim-node.Post
-side-start t c = let told = c .before .before .before .before in told .before .before .before .before .before .before
+side-start t c =
+    let told = c .before .before .before .before in
+    let unpacked = told .before .before .before in
+    unpacked .before .before .before
 
 abbrev side-done : (t : ℕ) (c : SideDone t) →
     let args = side-start t c .args in
@@ -133,8 +139,9 @@ side-done t c =
 side-asked : (t : ℕ) → trim-node-lts.Need-trim-requires (trim-node-claims t) (trim-node-at t) trim-node.Post
 side-asked t c κs =
     let told = c .before .before .before in
-    let start = told .before .before .before .before .before .before in
-    let node = sym (told .before .before .before .unpack .ensures) ∙ told .before .node .given .1 in
+    let unpacked = told .before .before .before in
+    let start = unpacked .before .before .before in
+    let node = sym (unpacked .unpack .ensures) ∙ told .before .node .given .1 in
     (omega (arith, start .pre .0, start .pre .1 .within), ready-one (start .pre .1) node)
 
 call-asked : (t : ℕ) → trim-node-lts.Need-break-call-requires (trim-node-claims t) (trim-node-at t) trim-node.Post
@@ -156,8 +163,10 @@ call-returns t c =
 
 unary-returns : (t : ℕ) → trim-node-lts.Need-returns-5 (trim-node-claims t) (trim-node-at t) trim-node.Post
 unary-returns t c =
-    let done = side-done t (c .before .before .before .before) in
-    unary-trimmed (done .ready) (done .node) (done .side) (sym (c .before .is-function1 .ensures) ∙ c .if1 .left)
+    let chosen = c .before .before in
+    let done = side-done t (chosen .before .before .before .before) in
+    let plain = sym (chosen .before .is-function1 .ensures) ∙ chosen .if1 .left in
+    plain-trimmed (c .before .state-of2 .ensures) (c .plain3 .ensures) (unary-trimmed (done .ready) (done .node) (done .side) plain)
 
 -- ---- over two sides
 
@@ -169,7 +178,8 @@ sides-start t c =
     let lent = c .before .before .before .before in
     let left = lent .before .before .before in
     let told = left .before .before .before .before in
-    told .before .before .before .before .before .before
+    let unpacked = told .before .before .before in
+    unpacked .before .before .before
 
 abbrev sides-done : (t : ℕ) (c : RightDone t) →
     let args = sides-start t c .args in
@@ -189,24 +199,27 @@ sides-done t c =
       ready = sides-start t c .pre .1;
       node = sym (told .before .before .before .unpack .ensures) ∙ told .before .node2 .given .1;
       left = left .trim2 .ensures;
-      right = handed-on (c .before .state-of2 .ensures) (c .trim3 .ensures);
+      right = handed-on (c .before .state-of3 .ensures) (c .trim3 .ensures);
     }
 
 left-asked : (t : ℕ) → trim-node-lts.Need-trim-requires-2 (trim-node-claims t) (trim-node-at t) trim-node.Post
 left-asked t c κs =
     let told = c .before .before .before in
-    let start = told .before .before .before .before .before .before in
-    let node = sym (told .before .before .before .unpack .ensures) ∙ told .before .node2 .given .1 in
+    let unpacked = told .before .before .before in
+    let start = unpacked .before .before .before in
+    let node = sym (unpacked .unpack .ensures) ∙ told .before .node2 .given .1 in
     (omega (arith, start .pre .0, start .pre .1 .within), ready-left (start .pre .1) node)
 
 right-asked : (t : ℕ) → trim-node-lts.Need-trim-requires-3 (trim-node-claims t) (trim-node-at t) trim-node.Post
 right-asked t c κs =
-    let left = c .before .before .before .before .before .before in
+    let lent = c .before .before .before in
+    let left = lent .before .before .before in
     let told = left .before .before .before .before in
-    let start = told .before .before .before .before .before .before in
-    let node = sym (told .before .before .before .unpack .ensures) ∙ told .before .node2 .given .1 in
+    let unpacked = told .before .before .before in
+    let start = unpacked .before .before .before in
+    let node = sym (unpacked .unpack .ensures) ∙ told .before .node2 .given .1 in
     let ready = start .pre .1 in
-    let asked = ready-right ready node (left .trim2 .ensures) (c .state-of2 .ensures) in
+    let asked = ready-right ready node (left .trim2 .ensures) (c .state-of3 .ensures) in
     (omega (arith, start .pre .0, ready .within, sides ready node .order), asked)
 
 call-two-asked : (t : ℕ) → trim-node-lts.Need-break-call-requires-2 (trim-node-claims t) (trim-node-at t) trim-node.Post
@@ -215,7 +228,7 @@ call-two-asked t c κs =
     let done = sides-done t (chosen .before .before .before .before) in
     let function = sym (chosen .before .is-function2 .ensures) ∙ chosen .if2 .taken in
     let calling = calling-two (done .ready) (done .node) (done .left) (done .right) function in
-    call-ready (done .ready) calling (c .state-of3 .ensures) (called-two (done .ready) (done .node) function)
+    call-ready (done .ready) calling (c .state-of4 .ensures) (called-two (done .ready) (done .node) function)
 
 call-two-returns : (t : ℕ) → trim-node-lts.Need-returns-2 (trim-node-claims t) (trim-node-at t) trim-node.Post
 call-two-returns t c =
@@ -224,26 +237,30 @@ call-two-returns t c =
     let done = sides-done t (chosen .before .before .before .before) in
     let function = sym (chosen .before .is-function2 .ensures) ∙ chosen .if2 .taken in
     let calling = calling-two (done .ready) (done .node) (done .left) (done .right) function in
-    call-trimmed (done .ready) calling (called .before .state-of3 .ensures) (called .break-call2 .ensures)
+    call-trimmed (done .ready) calling (called .before .state-of4 .ensures) (called .break-call2 .ensures)
 
 left-fits : (t : ℕ) → trim-node-lts.Need-add-join-sides (trim-node-claims t) (trim-node-at t) trim-node.Post
 left-fits t c =
-    let start = sides-start t (c .before .before .before .before) in
+    let chosen = c .before in
+    let start = sides-start t (chosen .before .before .before .before) in
     omega (arith, start .pre .1 .within, start .pre .1 .table .few)
 
 join-asked : (t : ℕ) → trim-node-lts.Need-join-sides-requires (trim-node-claims t) (trim-node-at t) trim-node.Post
 join-asked t c κs =
-    let chosen = c .before .before in
+    let stores = c .before .before in
+    let chosen = stores .before in
     let done = sides-done t (chosen .before .before .before .before) in
-    join-ready (done .ready) (done .node) (done .left) (done .right)
+    join-ready (done .ready) (done .node) (done .left) (done .right) _ (stores .sides-to-store .ensures)
 
 join-returns : (t : ℕ) → trim-node-lts.Need-returns-6 (trim-node-claims t) (trim-node-at t) trim-node.Post
 join-returns t c =
     let joins = c .before .before in
-    let chosen = joins .before .before .before in
+    let stores = joins .before .before .before in
+    let chosen = stores .before in
     let done = sides-done t (chosen .before .before .before .before) in
     let plain = sym (chosen .before .is-function2 .ensures) ∙ chosen .if2 .left in
-    join-trimmed (done .ready) (done .node) (done .left) (done .right) plain (joins .join-sides .ensures)
+    join-trimmed (done .ready) (done .node) (done .left) (done .right) (stores .sides-to-store .ensures) plain
+    (joins .join-sides .ensures)
 
 pub +trim+trim-node-spec : {M : Type 1} → statement M
 +trim+trim-node-spec =
@@ -258,11 +275,17 @@ pub +trim+trim-node-spec : {M : Type 1} → statement M
     (λ t. trim-node-lts.spec (trim-node-claims t) (trim-node-at t) trim-node.Post
     (λ c κs. let start = c .before .before in laid-room _ depthLimit _ (start .pre .1 .table .laid _ (start .pre .1 .within)))
     (λ c. search needs) (λ c κs. search needs) (λ c. search needs) (λ c κs. search needs) (λ c. search needs)
-    (λ c. let start = c .before .before .before .before .before .before in omega (arith, start .pre .1 .within, start .pre .1 .table .few))
+    (λ c.
+    let unpacked = c .before .before .before in
+    let start = unpacked .before .before .before in
+    omega (arith, start .pre .1 .within, start .pre .1 .table .few))
     (side-asked t) (λ c κs. search needs) (λ c κs. search needs) (call-asked t) (λ c. search needs) (call-returns t)
-    (λ c. search needs)
-    (λ c. let start = c .before .before .before .before .before .before in omega (arith, start .pre .1 .within, start .pre .1 .table .few))
+    (λ c κs. search needs) (λ c κs. search needs) (λ c. search needs)
+    (λ c.
+    let unpacked = c .before .before .before in
+    let start = unpacked .before .before .before in
+    omega (arith, start .pre .1 .within, start .pre .1 .table .few))
     (left-asked t) (λ c κs. search needs) (right-asked t) (λ c κs. search needs) (λ c κs. search needs)
-    (call-two-asked t) (λ c. search needs) (call-two-returns t) (left-fits t)
+    (call-two-asked t) (λ c. search needs) (call-two-returns t) (λ c κs. search needs) (left-fits t)
     (join-asked t) (const-returns t) (var-returns t) (λ c. search needs) (unary-returns t)
     (λ c. search needs) (join-returns t))
