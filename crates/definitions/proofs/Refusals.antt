@@ -7,10 +7,11 @@ use lib.ListN.{length}
 use lib.Dec.{eqb, leb, ltb}
 use Rattle.limits.specs.Limits.{depthLimit, nodeLimit, lastTag, lowestPower}
 use Rattle.operation.specs.Codes.{isUnary, isBinary}
+use Rattle.operation.specs.Operators.{wholeOf}
 use Rattle.operation.specs.declared.One.{One}
 use Rattle.operation.specs.declared.Two.{Two}
 use Rattle.definitions.specs.Tree.{Tree, weight}
-use Rattle.definitions.specs.Sheet.{Read, got, bad, andThen, byte, number16, number32, stable, Pair, part, pairs}
+use Rattle.definitions.specs.Sheet.{Read, got, bad, andThen, byte, number16, word32, stable, Pair, part, pairs}
 use Rattle.definitions.specs.Sheet.{firstTemporary, fileFits, headerFits, pairsFit, isTemporary, placeAt}
 use Rattle.definitions.specs.Sheet.{TreeReader, under1, under2, byTag, treeAt, statementAt, statementsAt, sheetOf}
 
@@ -65,7 +66,8 @@ module _ (first : ℕ) (s : List ℕ) where
         (either (eqb (byte s at) 7) (either (ltb (at + 1) (length s)) (under2-numbered _ (at + 2) nodes) five)
         (either (eqb (byte s at) 8) (either (ltb (at + 4) (length s)) (under1-numbered _ (at + 5) nodes) five)
         (either (ltb (at + 4) (length s))
-        (either (eqb (number32 s (at + 1)) lowestPower) (numbered 11 (omega arith) (omega arith)) (under2-numbered _ (at + 5) nodes))
+        (either (eqb (wholeOf (word32 s (at + 1))) lowestPower) (numbered 11 (omega arith) (omega arith))
+        (under2-numbered _ (at + 5) nodes))
         five))))))))
 
   at-tag : (at : ℕ) {r : Read Tree} → Numbered r →

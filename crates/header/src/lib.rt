@@ -3,7 +3,8 @@ use symbol::Loc;
 ghost use mathlib.Core.Path.{_≡_};
 ghost use Prim.Native.Nat.{_+_, _<_, _≤_};
 ghost use lib.ListN.{length};
-ghost use Rattle.definitions.specs.Sheet.{number16 as numberAt, number32 as wordAt, flag};
+ghost use Rattle.definitions.specs.Sheet.{number16 as numberAt, word32 as wordAt, flag};
+ghost use Rattle.operation.specs.Operators.{wholeOf};
 ghost use Rattle.header.specs.Settings.{headerOf, temporaryOf, Indexed};
 
 // The scratch count, the flags, the step between temporaries, the first one's index, and the statement count.
@@ -29,7 +30,7 @@ pub fn number16(s: &[u8], at: usize) -> u16
 
 pub fn number32(s: &[u8], at: usize) -> u32
     requires { ⌜ at + 3 < length (now s) ⌝ }
-    ensures { λ r. ⌜ r ≡ wordAt (now (s .entry)) at ⌝ }
+    ensures { λ r. ⌜ r ≡ wholeOf (wordAt (now (s .entry)) at) ⌝ }
 {
     let low = number16(s, at);
     let high = number16(s, at + 2);

@@ -20,7 +20,8 @@ returns-3 : tie.Need-returns-3
 returns-3 c =
     let read = c .before in
     let s = read .before .before .before in
-    rw (lt-ltb (s .args .at + 4) (length (s .args .s .now)) (omega arith), ← read .number32 .ensures, ne-eqb _ _ (c .if2 .left))
+    let power = read .number32 .ensures in
+    rw (lt-ltb (s .args .at + 4) (length (s .args .s .now)) (omega arith), ← power, ne-eqb _ _ (c .if2 .left), power)
 
 pub read-power-mod-spec : {M : Type 1} → statement M
 read-power-mod-spec =
