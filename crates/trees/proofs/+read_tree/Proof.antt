@@ -9,7 +9,7 @@ use Rattle.definitions.specs.Sheet.{Read, TreeReader, treeAt}
 use Rattle.node.specs.declared.Node.{Node}
 use Rattle.places.specs.declared.Head.{Head}
 use Rattle.places.specs.Heads.{headTree}
-use Rattle.trees.specs.Reads.{nodeHead}
+use Rattle.trees.specs.Reads.{firstIn, stableIn, nodeHead}
 use Rattle.trees.proofs.Heads.{Says, HeadKept, head-says, node-tree, kept-within}
 use Rattle.trees.proofs.Trees.{tree-was-got, tree-was-bad, leaf-read, under1-read, under2-read}
 use Rattle.trees.proofs.read_tree.Reads as read-tree
@@ -49,25 +49,25 @@ module _ (t : ℕ) where
     s = c .before .before .before
 
     abbrev below : TreeReader
-    below = treeAt (s .args .stable) (s .args .first) (s .args .left - 1) (s .args .s .now)
+    below = treeAt (stableIn (s .args .g)) (firstIn (s .args .g)) (s .args .left - 1) (s .args .s .now)
 
     abbrev node : Read Node
-    node = nodeHead (s .args .stable) (s .args .first) (s .args .left) (s .args .s .now) (s .args .at) (s .args .n)
+    node = nodeHead (stableIn (s .args .g)) (firstIn (s .args .g)) (s .args .left) (s .args .s .now) (s .args .at) (s .args .n)
 
     abbrev Within : Type 0
     Within = (0 < s .args .left) × (s .args .n < nodeLimit)
 
     within : {g : Head} → c .read-node .result ≡ g → HeadKept g → Within
     within =
-        kept-within (s .args .stable) (s .args .first) (s .args .s .now) (s .args .at) (s .args .n) (s .args .left)
+        kept-within (stableIn (s .args .g)) (firstIn (s .args .g)) (s .args .s .now) (s .args .at) (s .args .n) (s .args .left)
         (c .read-node .ensures)
 
     says : {g : Head} → c .read-node .result ≡ g → Says node g
     says = head-says node (c .read-node .ensures)
 
-    begins : treeAt (s .args .stable) (s .args .first) (s .args .left) (s .args .s .now) (s .args .at) (s .args .n)
+    begins : treeAt (stableIn (s .args .g)) (firstIn (s .args .g)) (s .args .left) (s .args .s .now) (s .args .at) (s .args .n)
         ≡ headTree below node (s .args .n)
-    begins = node-tree (s .args .stable) (s .args .first) (s .args .s .now) (s .args .at) (s .args .n) (s .args .left)
+    begins = node-tree (stableIn (s .args .g)) (firstIn (s .args .g)) (s .args .s .now) (s .args .at) (s .args .n) (s .args .left)
 
   -- the limits: at a leaf's tag, over one tree, over two, and at the second of them
   within0 : (c : lts.After-known-told (claims t) (read-tree-at t) read-tree.Post) → Within (c .before .before .before)
