@@ -12,10 +12,11 @@ ghost use Rattle.statement.specs.Rows.{RoomFor, rowsFrom};
 ghost use Rattle.calls.specs.Index.{slot, Indexed, Keyed, SeekReady};
 ghost use Rattle.calls.specs.Calls.{CallSought, CallFound, orElse, CallReady, CallMade, CallBroken};
 
-// What trimming goes by: the nodes of the sheet, its scratch count, and whether earlier calls are sought.
+// What trimming goes by: the nodes of the sheet, its scratch count, and whether earlier calls are sought. It goes down every tree,
+// so it is small enough for a register.
 pub struct Settings {
-    pub nodes: u32,
-    pub scratch: u32,
+    pub nodes: u16,
+    pub scratch: u8,
     pub sharing: bool,
 }
 
@@ -143,7 +144,7 @@ pub fn break_call(
         (now (heads .entry)) (now (heads .exit)) (g .nodes) i s r ⌝ }
 {
     if g.sharing {
-        return shared_call(ws, i, g.nodes, ms, rs, heads, s);
+        return shared_call(ws, i, g.nodes as u32, ms, rs, heads, s);
     }
     new_call(rs, i, s, 0)
 }

@@ -7,6 +7,12 @@ use Rattle.builder.proofs.trim_rows.Tie as tie
 abbrev start : tie.After-trim-statements → tie.Start
 start trimmed = let asked = trimmed .before .before .before .before in asked .before .before .before
 
+abbrev trimming : tie.After-ershovs → tie.After-trim-statements
+trimming numbered = numbered .before .before .before .before .before .before
+
+abbrev numbering : tie.After-too-wide → tie.After-ershovs
+numbering checked = checked .before .before .before .before .before
+
 trim-statements-requires : tie.Need-trim-statements-requires
 trim-statements-requires c κs =
     let pre = c .before .before .before .before .before .before .pre in
@@ -14,33 +20,32 @@ trim-statements-requires c κs =
 
 ershovs-requires : tie.Need-ershovs-requires
 ershovs-requires c κs =
-    let trimmed = c .before .before .before .before in
+    let trimmed = c .before .before .before .before .before in
     (start trimmed .pre .0 .table, trimmed .trim-statements .ensures .1)
 
 too-wide-requires : tie.Need-too-wide-requires
 too-wide-requires c κs =
-    let numbered = c .before .before .before in
-    let trimmed = numbered .before .before .before .before .before in
+    let numbered = c .before .before .before .before in
+    let trimmed = trimming numbered in
     let put = trimmed .trim-statements .ensures .0 in
     (start trimmed .pre .0 .table, numbered .ershovs .ensures, put .long, put .placed)
 
 returns : tie.Need-returns
 returns c =
-    let checked = c .before in
-    let numbered = checked .before .before .before .before in
-    let trimmed = numbered .before .before .before .before .before in
+    let numbered = numbering (c .before) in
+    let trimmed = trimming numbered in
     rows-refused _ _ _ _ _ (start trimmed .pre .0) _ _ _ (trimmed .trim-statements .ensures .0) _ (numbered .ershovs .ensures) _
-    (checked .too-wide .ensures) (c .if1 .taken)
+    (c .before .too-wide .ensures) (c .if1 .taken)
 
 returns-2 : tie.Need-returns-2
 returns-2 c =
-    let checked = c .before in
-    let numbered = checked .before .before .before .before in
-    let trimmed = numbered .before .before .before .before .before in
+    let numbered = numbering (c .before) in
+    let trimmed = trimming numbered in
     rows-trimmed _ _ _ _ _ (start trimmed .pre .0) _ _ _ (trimmed .trim-statements .ensures .0) _ (numbered .ershovs .ensures) _
-    (checked .too-wide .ensures) (c .if1 .left)
+    (c .before .too-wide .ensures) (c .if1 .left)
 
 pub trim-rows-spec : {M : Type 1} → statement M
 trim-rows-spec =
     tie.close
-    (tie.spec trim-statements-requires ershovs-requires too-wide-requires (λ c. search needs) returns (λ c. search needs) returns-2)
+    (tie.spec trim-statements-requires (λ c. search needs) ershovs-requires (λ c. search needs) too-wide-requires
+    (λ c. search needs) returns (λ c. search needs) returns-2)

@@ -7,14 +7,14 @@ use Rattle.calls.proofs.break_call.Tie as tie
 
 shared-call-requires : tie.Need-shared-call-requires
 shared-call-requires c κs =
-    let on = c .before .before in
+    let on = c .before .before .before in
     let s = on .before .before .before in
     (s .pre .0, s .pre .1 (on .if1 .taken))
 
 returns : tie.Need-returns
 returns c =
     let shared = c .before .before in
-    let on = shared .before .before .before in
+    let on = shared .before .before .before .before in
     rw (on .if1 .taken) (shared .shared-call .ensures)
 
 new-call-requires : tie.Need-new-call-requires
@@ -28,4 +28,6 @@ returns-2 c =
     broken-off (s .pre .0) (off .if1 .left) (put .new-call .ensures)
 
 pub break-call-spec : {M : Type 1} → statement M
-break-call-spec = tie.close (tie.spec shared-call-requires (λ c. search needs) returns new-call-requires (λ c. search needs) returns-2)
+break-call-spec =
+    tie.close
+    (tie.spec (λ c. search needs) shared-call-requires (λ c. search needs) returns new-call-requires (λ c. search needs) returns-2)

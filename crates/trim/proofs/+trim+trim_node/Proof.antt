@@ -241,14 +241,14 @@ call-two-returns t c =
 
 left-fits : (t : ℕ) → trim-node-lts.Need-add-join-sides (trim-node-claims t) (trim-node-at t) trim-node.Post
 left-fits t c =
-    let chosen = c .before in
+    let chosen = c .before .before in
     let start = sides-start t (chosen .before .before .before .before) in
     omega (arith, start .pre .1 .within, start .pre .1 .table .few)
 
 join-asked : (t : ℕ) → trim-node-lts.Need-join-sides-requires (trim-node-claims t) (trim-node-at t) trim-node.Post
 join-asked t c κs =
     let stores = c .before .before in
-    let chosen = stores .before in
+    let chosen = stores .before .before in
     let done = sides-done t (chosen .before .before .before .before) in
     join-ready (done .ready) (done .node) (done .left) (done .right) _ (stores .sides-to-store .ensures)
 
@@ -256,7 +256,7 @@ join-returns : (t : ℕ) → trim-node-lts.Need-returns-6 (trim-node-claims t) (
 join-returns t c =
     let joins = c .before .before in
     let stores = joins .before .before .before in
-    let chosen = stores .before in
+    let chosen = stores .before .before in
     let done = sides-done t (chosen .before .before .before .before) in
     let plain = sym (chosen .before .is-function2 .ensures) ∙ chosen .if2 .left in
     join-trimmed (done .ready) (done .node) (done .left) (done .right) (stores .sides-to-store .ensures) plain
@@ -286,6 +286,6 @@ pub +trim+trim-node-spec : {M : Type 1} → statement M
     let start = unpacked .before .before .before in
     omega (arith, start .pre .1 .within, start .pre .1 .table .few))
     (left-asked t) (λ c κs. search needs) (right-asked t) (λ c κs. search needs) (λ c κs. search needs)
-    (call-two-asked t) (λ c. search needs) (call-two-returns t) (λ c κs. search needs) (left-fits t)
+    (call-two-asked t) (λ c. search needs) (call-two-returns t) (λ c. search needs) (λ c κs. search needs) (left-fits t)
     (join-asked t) (const-returns t) (var-returns t) (λ c. search needs) (unary-returns t)
     (λ c. search needs) (join-returns t))
