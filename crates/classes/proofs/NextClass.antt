@@ -84,7 +84,7 @@ module _ (ws cs : List ℕ) (i n r : ℕ) (long : i < length cs) (low : i ≤ r)
         below = λ j h l. from (λ (x : ℕ). at (set cs i r) x < n) i j h (rw here high) (λ g. rw (later j g) (old .below j g l));
       }
 
--- all that is kept of the nodes from i on
+-- the mixes, chains and classes of the nodes from i on
 pub record ClassedFrom (ws mx heads chain cs : List ℕ) (i n : ℕ) : Type 0 where
   pub fitted : Fitted ws cs mx n
   pub mixed : Filled mix ws mx i n
@@ -188,7 +188,8 @@ pub classed-before : {ws mx heads chain cs : List ℕ} {o n : ℕ} → 0 < o →
 classed-before {o = o} z old = let e : suc (o - 1) ≡ o = omega arith in rw e old
 
 -- either pair of arrays, as far as there are nodes
-pub parts-fitted : {ws cs : List ℕ} {n : ℕ} (mx chain : List ℕ) → Table ws n → length cs ≡ n → n ≤ length mx →
-    n ≤ length chain →
-    Fitted ws cs (part n mx) n × (length (part n chain) ≡ n)
-parts-fitted {n = n} mx chain t c h k = (record { table = t; css = c; mxs = part-length n mx h }, part-length n chain k)
+pub parts-fitted : {ws cs : List ℕ} (es : List ℕ) {n : ℕ} (mx chain : List ℕ) → n ≤ length mx → n ≤ length chain →
+    Table ws n × (length cs ≡ n) × (length es ≡ n) →
+    Fitted ws cs (part n mx) n × (length es ≡ n) × (length (part n chain) ≡ n)
+parts-fitted es {n} mx chain h k p =
+    (record { table = p .0; css = p .1; mxs = part-length n mx h }, p .2, part-length n chain k)

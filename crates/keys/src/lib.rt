@@ -22,17 +22,20 @@ pub fn mix_seen(ws: &[u32], ms: &PerNode, i: u32) -> u64
     ensures { λ r. ⌜ SeenMix (now (ws .entry)) (now (ms .entry)) i r ⌝ }
 {
     let node = node::unpack(ws, i);
+    let s = mix::seed_of(node);
     match node {
-        Node::Const(k) => mix::mix_constant(k),
-        Node::Var(p) => mix::mix_variable(p),
-        Node::Unary(o) => {
+        Node::Const(_) => mix::mix_leaf(s),
+        Node::Var(_) => mix::mix_leaf(s),
+        Node::Unary(_) => {
             let a = mix_view(ws, ms, i + 1);
-            mix::mix_one(o, a)
+            mix::mix_one(s, a)
         }
         Node::Binary(o, right) => {
+            // Asked before the calls, so that they keep a bool and not the operator.
+            let k = node::exchanges_sides(o);
             let a = mix_view(ws, ms, i + 1);
             let b = mix_view(ws, ms, right);
-            mix::mix_two(o, a, b)
+            mix::mix_two(s, k, a, b)
         }
     }
 }

@@ -7,7 +7,7 @@ use Rattle.mix.proofs.mix_temporary.Tie as tie
 
 returns : tie.Need-returns
 unfolding temporaryMix
-returns c = c .stir .ensures ∙ ap stirred (c .before .seed-of .ensures)
+returns c = c .stir .ensures ∙ ap stirred (c .before .seed-from .ensures)
 
 pub mix-temporary-spec : {M : Type 1} → statement M
 mix-temporary-spec = tie.close (tie.spec (λ c κs. search needs) (λ c κs. search needs) returns)

@@ -20,14 +20,14 @@ abbrev μ-loop : tie.MeasureT-loop
 
 -- what the loop starts with
 module _ (turn : tie.At-loop Inv-loop μ-loop) where
-  abbrev numbered : tie.After-ershovs Inv-loop μ-loop
-  numbered = turn .before .before .before
-
   abbrev classed : tie.After-classes Inv-loop μ-loop
-  classed = numbered .before .before .before .before
+  classed = turn .before .before .before .before .before
+
+  abbrev counted : tie.After-slice-known2 Inv-loop μ-loop
+  counted = classed .before .before .before
 
   abbrev start : tie.Start Inv-loop μ-loop
-  start = classed .before .before .before .before .before .before
+  start = counted .before .before .before .before
 
   sized : length (classed .classes .last .1 .1 .0) ≡ length (start .args .cs .now)
   sized = classed .classes .kept .1 .1 .0
@@ -35,21 +35,22 @@ module _ (turn : tie.At-loop Inv-loop μ-loop) where
   held : SheetHeld (start .args .ws .now) (start .args .rows .now) (length (classed .classes .last .1 .1 .0)) (start .args .count)
   held = rw sized (start .pre .0)
 
-  ready : WalkReady (start .args .ws .now) (classed .classes .last .1 .1 .0) (numbered .ershovs .last .1 .1 .0)
+  ready : WalkReady (start .args .ws .now) (classed .classes .last .1 .1 .0) (classed .classes .last .1 .1 .1 .0)
       (length (classed .classes .last .1 .1 .0))
   ready =
       rw sized
       record {
         table = start .pre .0 .table;
-        classed = classed .classes .ensures;
-        ershovs = numbered .ershovs .ensures;
-        sized = numbered .ershovs .kept .1 .1 .0 ∙ start .pre .1;
+        classed = classed .classes .ensures .0;
+        ershovs = classed .classes .ensures .1;
+        sized = classed .classes .kept .1 .1 .1 .0 ∙ start .pre .1;
       }
 
 loop-holds : tie.Need-loop-holds Inv-loop μ-loop
 loop-holds c =
-    let classed = c .before .before .before .before .before .before in
-    let start = classed .before .before .before .before .before .before in
+    let classed = c .before .before .before .before in
+    let counted = classed .before .before .before in
+    let start = counted .before .before .before .before in
     (omega arith, walked-none (start .args .rows .now) (start .pre .2) (start .pre .3))
 
 root-at-requires : tie.Need-root-at-requires Inv-loop μ-loop
@@ -84,5 +85,5 @@ pub first-pass-with-spec : {M : Type 1} → statement M
 first-pass-with-spec =
     tie.close
     (tie.spec Inv-loop μ-loop (λ c. omega (arith, c .before .before .before .before .pre .0 .table .few)) (λ c κs. search needs)
-    (λ c κs. search needs) loop-holds root-at-requires find-cse-requires (λ c. search needs) (λ c. search needs) loop-again
+    loop-holds root-at-requires find-cse-requires (λ c. search needs) (λ c. search needs) loop-again
     settle-requires (λ c. search needs) (λ c. search needs) returns)
