@@ -7,17 +7,21 @@ use native.Mathlib.Nat.{mul-add, mul-suc, mul-le-mul-left}
 use native.Mathlib.Omega.{arith}
 use lib.IntN.{ℤ, pos, negsuc, natAbs}
 use lib.ListN.{length, length-append}
+use lib.Signed.{mag}
 use mir.Syntax.{w32}
-use mir.Val.{SFits}
+use mir.Val.{hbits}
 use mir.ValLaws.{toZ-ofZ}
 use Rattle.limits.specs.Limits.{opsPerNode}
 use Rattle.operation.specs.Codes.{recipCode}
 use Rattle.operation.specs.declared.Modulus.{Modulus}
 use Rattle.operation.specs.declared.Modulus.the-variants.{Without, Under}
+use Rattle.words.specs.Pushed.{wordsEnd}
 use Rattle.definitions.specs.Operations.{Op, opUni, Temp}
 use Rattle.definitions.specs.Emit.{productOps, powerOps}
 use Rattle.definitions.specs.Power.{signedOf, closing, higher, digitOps, gatherOps, squareOps, positiveOps}
 use Rattle.definitions.proofs.PowerDigits.{products-few}
+use Rattle.emitters.specs.Emitted.{Emitted, AllEmitted, Room}
+use Rattle.emitters.proofs.Emitting.{emitted-as}
 use Rattle.emitters.proofs.Powers.{positive-length}
 use Rattle.emitters.proofs.Sign.{signed-size, handed}
 
@@ -66,12 +70,21 @@ sized-few m false (negsuc n) d s h =
     omega (arith, plain-few (suc n) d s (omega arith) h)
 
 -- and no power that a word stands for is larger
-pub power-few : (m : Modulus) (stable : Bool) (w d s : ℕ) → length (powerOps m stable (signedOf w) d s) ≤ opsPerNode
+power-few : (m : Modulus) (stable : Bool) (w d s : ℕ) → length (powerOps m stable (signedOf w) d s) ≤ opsPerNode
 power-few m stable w d s = sized-few m stable (signedOf w) d s (signed-size w)
 
 -- read from its word and handed on, it has the same operations
-pub power-read : (m : Modulus) (stable : Bool) {p : ℤ} (w d s : ℕ) → SFits w32 p → p ≡ signedOf w
-    → (powerOps m stable (signedOf w) d s ≡ powerOps m stable (handed p) d s)
-    × (length (powerOps m stable (signedOf w) d s) ≤ opsPerNode)
-power-read m stable {p} w d s fits e =
-    (ap (λ (p : ℤ). powerOps m stable p d s) (sym (toZ-ofZ w32 p fits ∙ e)), power-few m stable w d s)
+module _ (m : Modulus) (stable : Bool) {p : ℤ} (w d s : ℕ) (small : mag p < 2 ^ hbits w32) (read : p ≡ signedOf w) where
+  same-ops : powerOps m stable (signedOf w) d s ≡ powerOps m stable (handed p) d s
+  same-ops = ap (λ (p : ℤ). powerOps m stable p d s) (sym (toZ-ofZ w32 p (record { sfits = small }) ∙ read))
+
+  handed-few : length (powerOps m stable (handed p) d s) ≤ opsPerNode
+  handed-few = rw same-ops at (power-few m stable w d s)
+
+  -- so it has room where a node has, and what is emitted is the node's
+  pub power-room : (at : ℕ) → at + 6 * opsPerNode ≤ wordsEnd → Room (powerOps m stable (handed p) d s) at
+  power-room at room = omega (arith, handed-few)
+
+  pub power-emitted : {at next : ℕ} {out out′ : List ℕ} → AllEmitted (powerOps m stable (handed p) d s) at next out out′
+      → Emitted (powerOps m stable (signedOf w) d s) opsPerNode at next out out′
+  power-emitted x = emitted-as handed-few same-ops x

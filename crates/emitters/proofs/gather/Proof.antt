@@ -1,8 +1,6 @@
--- `emitters::gather` meets its contract. The loop's invariant: the operations of the digits passed are emitted, those of the rest
--- are to come.
-use mathlib.Core.Path.{ap}
+-- `emitters::gather` meets its contract. The loop's invariant: the digits passed are emitted, the rest are to come.
 use native.Mathlib.Omega.{arith}
-use lib.ListN.{length, length-append}
+use lib.ListN.{length-append}
 use Rattle.definitions.specs.Power.{digits, gatherOps}
 use Rattle.definitions.specs.Emit.{productOps}
 use Rattle.emitters.proofs.Parts.{Part, part-none, part-more, part-room, part-whole, part-length}
@@ -19,27 +17,18 @@ abbrev μ-loop : tie.MeasureT-loop
 
 digit-requires : tie.Need-digit-requires Inv-loop μ-loop
 digit-requires c κs =
-    let test = c .before in
-    let turn = test .before in
-    let given = turn .before .before in
-    let a = given .args in
-    let step = gather-step (productOps (a .m)) (a .d) (turn .loop .last) (turn .loop .left) (test .loop-test .taken) in
-    omega (arith, part-room (turn .loop .inv) (given .pre), rw length-append at (ap length step))
+    let turn = c .before .before in
+    let rest = part-room (turn .loop .inv) (turn .before .before .pre) in
+    omega (arith, rw (gather-step _ _ _ _ (c .before .loop-test .taken), length-append) at rest)
 
 loop-again : tie.Need-loop-again Inv-loop μ-loop
 loop-again c =
     let emitted = c .before .before in
     let test = emitted .before .before in
-    let turn = test .before in
-    let a = turn .before .before .args in
-    let step = gather-step (productOps (a .m)) (a .d) (turn .loop .last) (turn .loop .left) (test .loop-test .taken) in
-    part-more (turn .loop .inv) step (emitted .digit .ensures)
+    part-more (test .before .loop .inv) (gather-step _ _ _ _ (test .loop-test .taken)) (emitted .digit .ensures)
 
 returns : tie.Need-returns Inv-loop μ-loop
-returns c =
-    let turn = c .before in
-    let a = turn .before .before .args in
-    part-whole (turn .loop .inv) (gather-end (productOps (a .m)) (a .d) (turn .loop .last) (turn .loop .left) (c .loop-test .left))
+returns c = part-whole (c .before .loop .inv) (gather-end _ _ _ _ (c .loop-test .left))
 
 pub gather-spec : {M : Type 1} → statement M
 gather-spec =

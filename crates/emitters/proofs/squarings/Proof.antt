@@ -1,7 +1,6 @@
 -- `emitters::squarings` meets its contract. The loop's invariant: some squarings are emitted, the last k are to come.
-use mathlib.Core.Path.{ap}
 use native.Mathlib.Omega.{arith}
-use lib.ListN.{length, length-append}
+use lib.ListN.{length-append}
 use Rattle.definitions.specs.Power.{squareOps}
 use Rattle.definitions.specs.Emit.{productOps}
 use Rattle.emitters.proofs.Parts.{Part, part-none, part-more, part-room, part-whole, part-length}
@@ -20,25 +19,18 @@ product-requires : tie.Need-product-requires Inv-loop μ-loop
 product-requires c κs =
     let test = c .before in
     let turn = test .before in
-    let given = turn .before .before in
-    let a = given .args in
-    let step = square-step (productOps (a .m)) (a .d) (turn .loop .k) (omega (arith, test .loop-test .taken)) in
-    omega (arith, part-room (turn .loop .inv) (given .pre), rw length-append at (ap length step))
+    let rest = part-room (turn .loop .inv) (turn .before .before .pre) in
+    omega (arith, rw (square-step _ _ (turn .loop .k) (omega (arith, test .loop-test .taken)), length-append) at rest)
 
 loop-again : tie.Need-loop-again Inv-loop μ-loop
 loop-again c =
     let emitted = c .before .before in
     let test = emitted .before .before in
     let turn = test .before in
-    let a = turn .before .before .args in
-    let step = square-step (productOps (a .m)) (a .d) (turn .loop .k) (omega (arith, test .loop-test .taken)) in
-    part-more (turn .loop .inv) step (emitted .product .ensures)
+    part-more (turn .loop .inv) (square-step _ _ (turn .loop .k) (omega (arith, test .loop-test .taken))) (emitted .product .ensures)
 
 returns : tie.Need-returns Inv-loop μ-loop
-returns c =
-    let turn = c .before in
-    let a = turn .before .before .args in
-    part-whole (turn .loop .inv) (square-end (productOps (a .m)) (a .d) (turn .loop .k) (c .loop-test .left))
+returns c = part-whole (c .before .loop .inv) (square-end _ _ _ (c .loop-test .left))
 
 pub squarings-spec : {M : Type 1} → statement M
 squarings-spec =

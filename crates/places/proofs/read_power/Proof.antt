@@ -1,20 +1,16 @@
 -- `places::read_power` meets its contract.
-use Prim.Native.Nat.{_+_}
-use native.Mathlib.Omega.{arith}
-use lib.ListN.{length}
 use borrow.Author.Needs.{needs}
-use borrow.Author.Tests.{lt-ltb, le-ltb}
+use Rattle.places.proofs.Heads.{bytes-missing, bytes-there}
 use Rattle.places.proofs.read_power.Statement.{statement}
 use Rattle.places.proofs.read_power.Tie as tie
 
 returns : tie.Need-returns
-returns c = let s = c .before .before in rw (le-ltb (s .args .at + 4) (length (s .args .s .now)) (omega arith))
+returns c = rw (bytes-missing 4 _ _ (c .if1 .taken))
 
 returns-2 : tie.Need-returns-2
 returns-2 c =
     let tagged = c .before in
-    let s = tagged .before .before .before in
-    rw (lt-ltb (s .args .at + 4) (length (s .args .s .now)) (omega arith), tagged .power-tag .ensures, c .number32 .ensures)
+    rw (bytes-there 4 _ _ (tagged .before .if1 .left), tagged .power-tag .ensures, c .number32 .ensures)
 
 pub read-power-spec : {M : Type 1} → statement M
 read-power-spec =

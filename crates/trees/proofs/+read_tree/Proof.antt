@@ -1,5 +1,6 @@
 -- `trees::read_tree` meets its contract: the depth left falls at each turn.
 use Prim.Native.Nat.{ℕ, _-_, _<_}
+use mathlib.Core.Bool.{Bool}
 use mathlib.Core.Path.{_≡_}
 use borrow.Author.Needs.{needs}
 use borrow.Fn.Kinds.{In}
@@ -48,26 +49,30 @@ module _ (t : ℕ) where
     abbrev s : lts.Start (claims t) (read-tree-at t) read-tree.Post
     s = c .before .before .before
 
+    abbrev stable : Bool
+    stable = stableIn (s .args .settings)
+
+    abbrev first : ℕ
+    first = firstIn (s .args .settings)
+
     abbrev below : TreeReader
-    below = treeAt (stableIn (s .args .g)) (firstIn (s .args .g)) (s .args .left - 1) (s .args .s .now)
+    below = treeAt stable first (s .args .left - 1) (s .args .s .now)
 
     abbrev node : Read Node
-    node = nodeHead (stableIn (s .args .g)) (firstIn (s .args .g)) (s .args .left) (s .args .s .now) (s .args .at) (s .args .n)
+    node = nodeHead stable first (s .args .left) (s .args .s .now) (s .args .at) (s .args .n)
 
     abbrev Within : Type 0
     Within = (0 < s .args .left) × (s .args .n < nodeLimit)
 
     within : {g : Head} → c .read-node .result ≡ g → HeadKept g → Within
     within =
-        kept-within (stableIn (s .args .g)) (firstIn (s .args .g)) (s .args .s .now) (s .args .at) (s .args .n) (s .args .left)
-        (c .read-node .ensures)
+        kept-within stable first (s .args .s .now) (s .args .at) (s .args .n) (s .args .left) (c .read-node .ensures)
 
     says : {g : Head} → c .read-node .result ≡ g → Says node g
     says = head-says node (c .read-node .ensures)
 
-    begins : treeAt (stableIn (s .args .g)) (firstIn (s .args .g)) (s .args .left) (s .args .s .now) (s .args .at) (s .args .n)
-        ≡ headTree below node (s .args .n)
-    begins = node-tree (stableIn (s .args .g)) (firstIn (s .args .g)) (s .args .s .now) (s .args .at) (s .args .n) (s .args .left)
+    begins : treeAt stable first (s .args .left) (s .args .s .now) (s .args .at) (s .args .n) ≡ headTree below node (s .args .n)
+    begins = node-tree stable first (s .args .s .now) (s .args .at) (s .args .n) (s .args .left)
 
   -- the limits: at a leaf's tag, over one tree, over two, and at the second of them
   within0 : (c : lts.After-known-told (claims t) (read-tree-at t) read-tree.Post) → Within (c .before .before .before)
