@@ -2,6 +2,7 @@
 //! alone, and than the Rust from the same bytes, which is the work that ours does.
 
 mod library;
+mod rows;
 mod shapes;
 
 use std::hint::black_box;
@@ -9,26 +10,16 @@ use std::process::ExitCode;
 use std::time::{Duration, Instant};
 
 use oracle::compile::Run;
-use oracle::differences::{expected, Worked};
-use oracle::generate::{generate, Kind};
-use oracle::series::{accepted, Set};
-use oracle::sheet::{Sheet, Tree};
+use oracle::differences::Worked;
+use oracle::sheet::Sheet;
 
 use crate::library::compile;
-use crate::shapes::{nested_calls, shapes, Shape};
+use crate::rows::{collection, hard_shapes, sized, Row, AGAIN, COLLECTION, IN_A_SET, SETS, SIZES};
+use crate::shapes::nested_calls;
 
 const WORDS: usize = 16_384;
-const SEED: u64 = 1;
-const COLLECTION: usize = 2_000;
-const COLLECTION_NODES: std::ops::RangeInclusive<usize> = 10..=300;
-const SIZES: [usize; 4] = [16, 64, 256, 1_024];
-const IN_A_SET: usize = 200;
 /// Each side is timed so often, in turns; the fastest turn counts, since others only add to a time.
 const TURNS: usize = 15;
-/// What `tests/slowest` found.
-const SLOWEST: &[u8] = include_bytes!("../slowest.sheet");
-/// A shape's one sheet is compiled so often in a turn.
-const AGAIN: usize = 40;
 /// What no shape may pass, in times of the median sheet of its size, and growth where sheets or calls are four times as many.
 const MEDIANS: f64 = 5.0;
 const GROWTH: f64 = 4.5;
@@ -124,18 +115,6 @@ fn median(files: &[Vec<u8>], lent: &mut Lent) -> f64 {
     times[times.len() / 2]
 }
 
-/// The first generated sheets of 10 to 300 nodes, with powers or without, that have a list.
-fn collection(powers: bool) -> Vec<Vec<u8>> {
-    let right = |sheet: &Sheet| {
-        let has_power = sheet.count(Tree::is_power) > 0;
-        has_power == powers && COLLECTION_NODES.contains(&sheet.nodes())
-    };
-    let fits = |file: &Vec<u8>| {
-        Sheet::read(file).is_ok_and(|sheet| right(&sheet)) && expected(file).is_ok()
-    };
-    (0..).map(|number| generate(SEED, number, Kind::Valid)).filter(fits).take(COLLECTION).collect()
-}
-
 fn heading(first: &str) {
     println!(
         "{first:<44}{:>10}{:>12}{:>10}{:>8}{:>12}",
@@ -161,29 +140,27 @@ struct Shown {
     largest: Vec<Vec<u8>>,
 }
 
-fn series(sharing: bool, many_repeats: bool, lent: &mut Lent) -> Shown {
+fn series(set: (bool, bool), lent: &mut Lent) -> Shown {
     let mut shown = Shown { ratios: Vec::new(), growth: 0.0, largest: Vec::new() };
     let mut before = 0.0;
     for nodes in SIZES {
-        let files = accepted(SEED, Set { nodes, sharing, many_repeats }, IN_A_SET);
-        let times = measure(&files, lent);
-        let switch = if sharing { "on" } else { "off" };
-        let repeats = if many_repeats { "many" } else { "few" };
-        report(&format!("{nodes} nodes, sharing {switch}, {repeats} repeats"), &times);
+        let row = sized(nodes, set);
+        let times = measure(&row.files, lent);
+        report(&row.name, &times);
         shown.ratios.push(times.ratio());
         shown.growth = times.ours / before;
         before = times.ours;
-        shown.largest = files;
+        shown.largest = row.files;
     }
     shown
 }
 
 /// One line a shape; gives the least ratio, and the longest of our times.
-fn table(shapes: &[Shape], lent: &mut Lent) -> (f64, f64) {
+fn table(rows: &[Row], lent: &mut Lent) -> (f64, f64) {
     let (mut least, mut longest) = (f64::INFINITY, 0.0f64);
-    for shape in shapes {
-        let times = measure(&vec![shape.file.clone(); AGAIN], lent);
-        report(shape.name, &times);
+    for row in rows {
+        let times = measure(&row.files, lent);
+        report(&row.name, &times);
         least = least.min(times.ratio());
         longest = longest.max(times.ours);
     }
@@ -199,17 +176,13 @@ fn main() -> ExitCode {
         &format!("{COLLECTION} like these, with powers"),
         &measure(&collection(true), &mut lent),
     );
-    let sets = [(true, false), (true, true), (false, false), (false, true)];
-    let shown: Vec<Shown> =
-        sets.iter().map(|(sharing, repeats)| series(*sharing, *repeats, &mut lent)).collect();
+    let shown: Vec<Shown> = SETS.iter().map(|set| series(*set, &mut lent)).collect();
     let growth = shown.iter().map(|set| set.growth).fold(0.0, f64::max);
     let small = shown.iter().map(|set| set.ratios[0]).fold(f64::INFINITY, f64::min);
     let least = shown.iter().flat_map(|set| &set.ratios).copied().fold(f64::INFINITY, f64::min);
     println!();
     heading("shapes of about 1,024 nodes");
-    let mut hard = shapes();
-    hard.push(Shape { name: "the slowest that mutation found", file: SLOWEST.to_vec() });
-    let (least_shape, longest) = table(&hard, &mut lent);
+    let (least_shape, longest) = table(&hard_shapes(), &mut lent);
     let largest: Vec<Vec<u8>> = shown.into_iter().flat_map(|set| set.largest).collect();
     let middle = median(&largest, &mut lent);
     let calls =
