@@ -9,17 +9,16 @@ use Rattle.limits.specs.Limits.{depthLimit, sideLimit}
 use Rattle.symbol.specs.declared.Loc.{Loc}
 use Rattle.operation.specs.declared.One.{One}
 use Rattle.operation.specs.declared.Two.{Two}
-use Rattle.definitions.specs.Tree.{Tree, constant, variable}
 use Rattle.definitions.specs.Same.{same}
-use Rattle.definitions.proofs.Sameness.{same-self}
 use Rattle.node.specs.declared.Node.{Node}
 use Rattle.node.specs.declared.Node.the-variants.{Const, Var, Unary, Binary}
 use Rattle.node.specs.Nodes.{sameHead, nodeAt, endAt, nodeTree, Lies}
 use Rattle.node.specs.Views.{seen, view}
-use Rattle.node.proofs.Heads.{Paired, consts, vars, unaries, binaries, node-sized, head-pairs, other-heads, one-same, two-same}
+use Rattle.node.proofs.Heads.{Paired, node-sized, head-pairs, other-heads, const-same, var-same, unary-same, binary-same}
+use Rattle.node.proofs.Heads.{unary-lies, binary-lies}
 use Rattle.node.proofs.Nodes.{Side, laid-up, laid-room, laid-sides}
 use Rattle.node.proofs.Views.{seen-node}
-use Rattle.compare.specs.Comparison.{Comparable, TwoTrees, FourSides, SameSeen, SameView, sameSides, SideViews}
+use Rattle.compare.specs.Comparison.{Comparable, TwoTrees, FourSides, SameSeen, SameView, SideViews}
 
 pub side-comparable : {ws : List ℕ} {i j : ℕ} → Comparable ws i → Side ws sideLimit i j → Comparable ws j
 side-comparable {ws} {i} {j} h s =
@@ -62,28 +61,6 @@ pub one-head : {ws : List ℕ} {a b : ℕ} {x y z : Node} → Unpacked ws a b x 
 one-head {ws} {a} {b} {x} {y} u h e =
     let paired = head-pairs x y (node-sized ws a (u .first)) (node-sized ws b (u .second)) h in
     record { nodes = rw e at u; paired = rw e at paired }
-
-module _ (v : ℕ → Tree) (a b : ℕ) where
-  const-same : {i : ℕ} {y : Node} → Paired (Const i) y → same (nodeTree v a (Const i)) (nodeTree v b y) ≡ true
-  const-same (consts i) = same-self (constant i)
-
-  var-same : {p : Loc} {y : Node} → Paired (Var p) y → same (nodeTree v a (Var p)) (nodeTree v b y) ≡ true
-  var-same (vars p) = same-self (variable p)
-
-  unary-same : {o : One} {y : Node} → Paired (Unary o) y →
-      same (nodeTree v a (Unary o)) (nodeTree v b y) ≡ same (v (a + 1)) (v (b + 1))
-  unary-same (unaries o) = one-same o (v (a + 1)) (v (b + 1))
-
-  binary-same : {o : Two} {r : ℕ} {y : Node} → Paired (Binary o r) y → (P : ℕ → Type 0) (ws : List ℕ) → Lies P ws b y →
-      same (nodeTree v a (Binary o r)) (nodeTree v b y) ≡ sameSides o (v (a + 1)) (v r) (v (b + 1)) (v (endAt ws (b + 1)))
-  binary-same (binaries o r s) P ws l = rw (← (l .2)) (two-same o (v (a + 1)) (v r) (v (b + 1)) (v s))
-
-module _ (P : ℕ → Type 0) (ws : List ℕ) (b : ℕ) where
-  unary-lies : {o : One} {y : Node} → Paired (Unary o) y → Lies P ws b y → P (b + 1)
-  unary-lies (unaries o) l = l .0
-
-  binary-lies : {o : Two} {r : ℕ} {y : Node} → Paired (Binary o r) y → Lies P ws b y → P (b + 1) × P (endAt ws (b + 1))
-  binary-lies (binaries o r s) l = (l .0, rw (← (l .2)) (l .1))
 
 module _ {ws : List ℕ} {a b : ℕ} {y : Node} where
   pub const-nodes-same : {i : ℕ} → OneHead ws a b (Const i) y → (ms : List ℕ) → SameSeen ws ms a b true
