@@ -1,60 +1,29 @@
--- One node more gets its mix, its place in a chain and its class. Assumes nothing.
-use mathlib.Core.Path.{_≡_, refl, sym, ap, ap₂, _∙_}
-use mathlib.Core.Bool.{Bool, true, false, _&&_}
+-- One node more gets its mix, its place in the index and its class. Assumes nothing.
+use mathlib.Core.Path.{_≡_, refl, sym, ap, _∙_}
 use mathlib.Core.List.{List}
-use Prim.Native.Nat.{ℕ, suc, _+_, _-_, _<_, _≤_}
+use Prim.Native.Nat.{ℕ, suc, _*_, _+_, _-_, _<_, _≤_}
 use native.Mathlib.Omega.{arith}
-use lib.ListN.{length, set, replicate, length-set}
+use lib.ListN.{length, set, length-set}
 use lib.Seq.{getD-set-same, getD-set-other}
 use lib.Dec.{eqb}
-use borrow.Author.Tests.{eq-eqb, ne-eqb, eqb-true}
-use Rattle.definitions.specs.Tree.{Tree}
+use borrow.Author.Tests.{eq-eqb}
 use Rattle.definitions.specs.Same.{same}
-use Rattle.definitions.proofs.Sameness.{same-self, same-symmetric, same-transitive}
+use Rattle.definitions.proofs.Sameness.{same-self, same-symmetric}
+use Rattle.node.specs.Nodes.{nodeAt, tree, Table}
 use Rattle.node.specs.declared.Node.{Node}
-use Rattle.node.specs.declared.Node.the-variants.{Const, Var, Unary, Binary}
-use Rattle.node.specs.Nodes.{nodeAt, nodeTree, tree, Table}
-use Rattle.node.proofs.Heads.{node-sized}
-use Rattle.mix.specs.Mix.{variableMix, oneMix, twoMix, mixBy, mix}
-use Rattle.mix.proofs.SameMixes.{mixes-apart}
-use Rattle.numbers.specs.Filled.{at, OnSides, Filled}
-use Rattle.numbers.proofs.TableSides.{Between, sides-more, tree-node, sides-between}
+use Rattle.mix.specs.Mix.{mix}
+use Rattle.numbers.specs.Filled.{at, Filled}
+use Rattle.numbers.proofs.TableSides.{Between, tree-node, sides-between}
 use Rattle.numbers.proofs.Filling.{from, filled-more}
-use Rattle.classes.specs.declared.Sought.{Sought}
-use Rattle.classes.specs.Copies.{copyOf, equalCopies}
-use Rattle.classes.specs.Classes.{Classed, SidesInside, Fitted, nodeMix, slotCount, slot, Linked, alike, ClassFound, hit, none}
-use Rattle.classes.proofs.CopiesTell.{agree, copies-tell}
-use Rattle.classes.proofs.Chains.{none-linked, linked-more}
+use Rattle.index.specs.Paths.{slotCount, entry}
+use Rattle.classes.specs.Classes.{Classed, Fitted, nodeMix, Linked, Free, Next, ClassFor}
+use Rattle.classes.proofs.NodeMixes.{node-mix}
+use Rattle.classes.proofs.Telling.{equal-flips}
+use Rattle.classes.proofs.Linking.{none-linked}
 use Rattle.classes.proofs.Parts.{part, part-length}
 
--- a node of the table has its sides inside an array with a word for each node
-pub sides-inside : {ws : List ℕ} {n i size : ℕ} {x : Node} → Table ws n → size ≡ n → i < n → x ≡ nodeAt ws i →
-    SidesInside size i x
-sides-inside {ws} {n} {i} {size} t q l e =
-    rw e
-    (sides-more (Between i n) (λ a. a < size) (λ a b. omega (arith, b .below)) i (nodeAt ws i) (sides-between t i l))
-
-mix-node : (f : ℕ → ℕ) (T : ℕ → Tree) (P : ℕ → Type 0) → ((a : ℕ) → P a → f a ≡ mix (T a)) →
-    (i : ℕ) (x : Node) → OnSides P i x → nodeMix f i x ≡ mix (nodeTree T i x)
-unfolding mixBy
-mix-node f T P h i (Const k) s = refl
-mix-node f T P h i (Var p) s = refl
-mix-node f T P h i (Unary o) s = ap (oneMix o) (h (i + 1) s)
-mix-node f T P h i (Binary o r) s = ap₂ (twoMix o) (h (i + 1) (s .0)) (h r (s .1))
-
--- a tree may stand for one that it is the same as
-same-like : (t u v : Tree) → same t u ≡ true → same t v ≡ same u v
-same-like t u v e =
-    agree (same t v) (same u v)
-    (λ h. same-transitive u t v (same-symmetric u t ∙ e) h)
-    (λ h. same-transitive t u v e h)
-
-equal-flips : (a b : ℕ) → eqb a b ≡ eqb b a
-equal-flips a b = agree (eqb a b) (eqb b a) (λ e. eq-eqb b a (sym (eqb-true a b e))) (λ e. eq-eqb a b (sym (eqb-true b a e)))
-
 -- a class for node i that tells it from all after it
-module _ (ws cs : List ℕ) (i n r : ℕ) (long : i < length cs) (low : i ≤ r) (high : r < n) (old : Classed ws cs (suc i) n)
-    (row : (k : ℕ) → i < k → k < n → eqb r (at cs k) ≡ same (tree ws i) (tree ws k)) where
+module _ (ws cs : List ℕ) (i n r : ℕ) (long : i < length cs) (for : ClassFor ws cs i n r) (old : Classed ws cs (suc i) n) where
   here : at (set cs i r) i ≡ r
   here = getD-set-same cs i r 0 long
 
@@ -68,36 +37,37 @@ module _ (ws cs : List ℕ) (i n r : ℕ) (long : i < length cs) (low : i ≤ r)
   tells-here k h l =
       from (Tells i) i k h
       (rw here (eq-eqb r r refl ∙ sym (same-self (tree ws i))))
-      (λ g. rw (here, later k g) (row k g l))
+      (λ g. rw (here, later k g) (for .tells k g l))
 
   tells-later : (j k : ℕ) → i < j → j < n → i ≤ k → k < n → Tells j k
   tells-later j k g l h m =
       from (Tells j) i k h
-      (rw (here, later j g) (equal-flips (at cs j) r ∙ row j g l ∙ same-symmetric (tree ws i) (tree ws j)))
+      (rw (here, later j g) (equal-flips (at cs j) r ∙ for .tells j g l ∙ same-symmetric (tree ws i) (tree ws j)))
       (λ f. rw (later j g, later k f) (old .tells j k g l f m))
 
   classed-more : Classed ws (set cs i r) i n
   classed-more =
       record {
         tells = λ j k hj lj hk lk. from (λ (x : ℕ). Tells x k) i j hj (tells-here k hk lk) (λ g. tells-later j k g lj hk lk);
-        above = λ j h l. from (λ (x : ℕ). x ≤ at (set cs i r) x) i j h (rw here low) (λ g. rw (later j g) (old .above j g l));
-        below = λ j h l. from (λ (x : ℕ). at (set cs i r) x < n) i j h (rw here high) (λ g. rw (later j g) (old .below j g l));
+        above = λ j h l.
+            from (λ (x : ℕ). x ≤ at (set cs i r) x) i j h (rw here (for .above)) (λ g. rw (later j g) (old .above j g l));
+        below = λ j h l.
+            from (λ (x : ℕ). at (set cs i r) x < n) i j h (rw here (for .below)) (λ g. rw (later j g) (old .below j g l));
       }
 
--- the mixes, chains and classes of the nodes from i on
-pub record ClassedFrom (ws mx heads chain cs : List ℕ) (i n : ℕ) : Type 0 where
+-- the mixes, the index and the classes of the nodes from i on
+pub record ClassedFrom (ws cs mx links : List ℕ) (i n : ℕ) : Type 0 where
   pub fitted : Fitted ws cs mx n
   pub mixed : Filled mix ws mx i n
-  pub linked : Linked mx heads chain i n
+  pub linked : Linked ws links i n
   pub classed : Classed ws cs i n
 
-pub none-classed : {ws mx chain cs : List ℕ} {n : ℕ} → Fitted ws cs mx n → length chain ≡ n →
-    ClassedFrom ws mx (replicate slotCount n) chain cs n n
-none-classed {mx = mx} {n = n} f long =
+pub none-classed : {ws cs mx links : List ℕ} {n : ℕ} → Fitted ws cs mx n → Free links n → ClassedFrom ws cs mx links n n
+none-classed {ws} f free =
     record {
       fitted = f;
       mixed = λ j h l. absurd (omega arith);
-      linked = none-linked mx n long;
+      linked = none-linked ws free;
       classed =
           record {
             tells = λ j k h l. absurd (omega arith);
@@ -106,90 +76,57 @@ none-classed {mx = mx} {n = n} f long =
           };
     }
 
--- node i, with what is kept of the nodes after it: x is what the search for its class looks for
-module _ (ws mx heads chain cs : List ℕ) (n : ℕ) (x : Sought) (l : x .node < n)
-    (old : ClassedFrom ws mx heads chain cs (suc (x .node)) n) (e : x .mix ≡ nodeMix (at mx) (x .node) (nodeAt ws (x .node)))
-    (q : x .copy ≡ copyOf (at cs) (x .node) (nodeAt ws (x .node))) where
+-- as the loop has it: the node before o is next, unpacked as x
+module _ {ws cs mx links : List ℕ} {o n : ℕ} (some : 0 < o) (within : o ≤ n) (old : ClassedFrom ws cs mx links o n) where
   abbrev i : ℕ
-  i = x .node
+  i = o - 1
+
+  up : suc i ≡ o
+  up = omega arith
+
+  inside : i < n
+  inside = omega arith
 
   t : Table ws n
   t = old .fitted .table
 
-  -- a copy equal to that of node i is that of a same tree
-  same-now : (j : ℕ) → i < j → j < n → equalCopies (x .copy) (copyOf (at cs) j (nodeAt ws j)) ≡ same (tree ws i) (tree ws j)
-  same-now j h k =
-      rw q
-      (copies-tell (at cs) (tree ws) (Between i n) (Between j n)
-      (λ a b p q. old .classed .tells a b (p .after) (p .below) (omega (arith, q .after)) (q .below))
-      i j (nodeAt ws i) (nodeAt ws j) (node-sized ws i refl) (node-sized ws j refl) (sides-between t i l) (sides-between t j k)
-      ∙ sym (ap₂ same (tree-node t i l) (tree-node t j k)))
+  mix-now : {x : Node} {m : ℕ} → x ≡ nodeAt ws i → m ≡ nodeMix (at mx) i x → m ≡ mix (tree ws i)
+  mix-now e h =
+      rw e at h
+      ∙ node-mix (at mx) (tree ws) (Between i n) (λ a b. old .mixed a (omega (arith, b .after)) (b .below)) i (nodeAt ws i)
+      (sides-between t i inside)
+      ∙ sym (ap mix (tree-node t i inside))
 
-  mix-now : x .mix ≡ mix (tree ws i)
-  mix-now =
-      e
-      ∙ mix-node (at mx) (tree ws) (Between i n) (λ a b. old .mixed a (b .after) (b .below)) i (nodeAt ws i) (sides-between t i l)
-      ∙ sym (ap mix (tree-node t i l))
-
-  alike-same : (j : ℕ) → i < j → j < n → alike ws cs mx x j ≡ true → same (tree ws i) (tree ws j) ≡ true
-  unfolding alike
-  alike-same j h k = go (eqb (x .mix) (at mx j)) (same-now j h k)
-    where
-      go : (b : Bool) {s c : Bool} → c ≡ s → (b && c) ≡ true → s ≡ true
-      go true p q = sym p ∙ q
-      go false p q = cc
-
-  unlike-other : (j : ℕ) → i < j → j < n → alike ws cs mx x j ≡ false → same (tree ws i) (tree ws j) ≡ false
-  unfolding alike
-  unlike-other j h k = go (eqb (x .mix) (at mx j)) refl
-    where
-      go : (b : Bool) → eqb (x .mix) (at mx j) ≡ b → (b && equalCopies (x .copy) (copyOf (at cs) j (nodeAt ws j))) ≡ false →
-          same (tree ws i) (tree ws j) ≡ false
-      go true p q = sym (same-now j h k) ∙ q
-      go false p q = mixes-apart variableMix (tree ws i) (tree ws j) (sym (ap₂ eqb mix-now (old .mixed j h k)) ∙ p)
-
-  -- what the search gave
-  module _ {r : ℕ} (found : ClassFound (alike ws cs mx x) cs i n r) where
-    row-of : (k : ℕ) → i < k → k < n → eqb r (at cs k) ≡ same (tree ws i) (tree ws k)
-    row-of k h lk = go found
-      where
-        go : ClassFound (alike ws cs mx x) cs i n r → eqb r (at cs k) ≡ same (tree ws i) (tree ws k)
-        go (hit j g lj c p) =
-            ap (λ (v : ℕ). eqb v (at cs k)) p ∙ old .classed .tells j k g lj h lk
-            ∙ sym (same-like (tree ws i) (tree ws j) (tree ws k) (alike-same j g lj c))
-        go (none p f) =
-            ap (λ (v : ℕ). eqb v (at cs k)) p ∙ ne-eqb i (at cs k) (λ q. omega (arith, old .classed .above k h lk))
-            ∙ sym (unlike-other k h lk (f k h lk))
-
-    class-between : (i ≤ r) × (r < n)
-    class-between = go found
-      where
-        go : ClassFound (alike ws cs mx x) cs i n r → (i ≤ r) × (r < n)
-        go (hit j g lj c p) = omega (arith, old .classed .above j g lj, old .classed .below j g lj)
-        go (none p f) = omega arith
-
-    pub classed-next : {b : ℕ} → b ≡ slot (x .mix) →
-        ClassedFrom ws (set mx i (x .mix)) (set heads b i) (set chain i (at heads b)) (set cs i r) i n
-    classed-next e′ =
-        let m = x .mix in
-        let sized = old .fitted in
-        rw e′
+  pub next-ready : {x : Node} {m : ℕ} → x ≡ nodeAt ws i → m ≡ nodeMix (at mx) i x →
+      Next ws cs mx i m × Linked ws links (suc i) (length cs)
+  next-ready e h =
+      let long = old .fitted .css in
+      rw (long, up) (
         record {
-          fitted = record { table = t; css = length-set cs i r ∙ sized .css; mxs = length-set mx i m ∙ sized .mxs };
-          mixed = filled-more mix ws mx i n m (omega (arith, sized .mxs)) mix-now (old .mixed);
-          linked = linked-more mx heads chain i n m l (sized .mxs) (old .linked);
-          classed =
-              classed-more ws cs i n r (omega (arith, sized .css)) (class-between .0) (class-between .1) (old .classed) row-of;
-        }
+          nodes = record { table = rw long t; inside = omega (arith, long); after = rw (long, up) (old .classed) };
+          mxs = old .fitted .mxs ∙ sym long;
+          mixed = rw (long, up) (old .mixed);
+          ours = mix-now e h;
+        },
+        old .linked,
+      )
 
--- as the loop has it: the node before o
-pub classed-before : {ws mx heads chain cs : List ℕ} {o n : ℕ} → 0 < o → ClassedFrom ws mx heads chain cs o n →
-    ClassedFrom ws mx heads chain cs (suc (o - 1)) n
-classed-before {o = o} z old = let e : suc (o - 1) ≡ o = omega arith in rw e old
+  pub classed-next : {x : Node} {m r : ℕ} {links′ : List ℕ} → x ≡ nodeAt ws i → m ≡ nodeMix (at mx) i x →
+      ClassFor ws cs i (length cs) r × Linked ws links′ i (length cs) → ClassedFrom ws (set cs i r) (set mx i m) links′ i n
+  classed-next {m = m} {r = r} e h found =
+      let sized = old .fitted in
+      let long = sized .css in
+      record {
+        fitted = record { table = t; css = length-set cs i r ∙ long; mxs = length-set mx i m ∙ sized .mxs };
+        mixed = filled-more mix ws mx i n m (omega (arith, sized .mxs)) (mix-now e h) (rw (← up) at (old .mixed));
+        linked = rw long at (found .1);
+        classed = classed-more ws cs i n r (omega (arith, long)) (rw long at (found .0)) (rw (← up) at (old .classed));
+      }
 
--- either pair of arrays, as far as there are nodes
-pub parts-fitted : {ws cs : List ℕ} (es : List ℕ) {n : ℕ} (mx chain : List ℕ) → n ≤ length mx → n ≤ length chain →
-    Table ws n × (length cs ≡ n) × (length es ≡ n) →
-    Fitted ws cs (part n mx) n × (length es ≡ n) × (length (part n chain) ≡ n)
-parts-fitted es {n} mx chain h k p =
-    (record { table = p .0; css = p .1; mxs = part-length n mx h }, p .2, part-length n chain k)
+-- with either pair of arrays, as far as there are nodes
+pub parts-fitted : {ws cs : List ℕ} (es : List ℕ) {n : ℕ} (mx links : List ℕ) → n ≤ length mx →
+    slotCount + 2 * n ≤ length links →
+    ((p : ℕ) → entry links p ≡ 0) → Table ws n × (length cs ≡ n) × (length es ≡ n) →
+    Fitted ws cs (part n mx) n × (length es ≡ n) × Free links n
+parts-fitted es {n} mx links h k zeros p =
+    (record { table = p .0; css = p .1; mxs = part-length n mx h }, p .2, record { room = k; free = zeros })

@@ -23,8 +23,8 @@ pub const NODES: usize = 1024;
 // The nodes of a small sheet, for which sharing clears less memory.
 pub const SMALL: usize = 128;
 
-// The chains that sharing puts nodes into by their mixes: so many that few nodes share one.
-pub const SLOTS: usize = 1024;
+// The trees in which sharing looks nodes up by their mixes: so many that few nodes share one.
+pub const SLOTS: usize = 512;
 
 // The levels of a tree.
 pub const DEPTH: u32 = 64;
