@@ -8,18 +8,18 @@ use lib.ListN.{length, getD, set, length-set}
 use lib.Seq.{sets, getD-set-same, getD-set-other}
 use lib.Dec.{eqb}
 use borrow.Author.Tests.{eq-eqb, ne-eqb}
-use Rattle.limits.specs.Limits.{nodeLimit}
+use Rattle.limits.specs.Limits.{nodeLimit, rowLimit}
 use Rattle.symbol.specs.declared.Loc.{Loc}
 use Rattle.node.specs.Views.{seen}
 use Rattle.node.proofs.Nodes.{below-or, equal-or}
 use Rattle.statement.specs.declared.Row.{Row}
 use Rattle.statement.specs.declared.Row.the-variants.{Given, Copied, Kept, Passed, Made}
-use Rattle.statement.specs.Rows.{RoomFor, rowWords, callWords, HasLink, linkAt, rowAt, rowsFrom}
+use Rattle.statement.specs.Rows.{linkEnd, RoomFor, rowWords, callWords, rowAt, rowsFrom}
 use Rattle.statement.specs.Rowing.{All, OnRoot, Unmade}
-use Rattle.statement.proofs.RowsPut.{row-back, row-before, kind-before, unmade-kind, call-back}
+use Rattle.statement.proofs.RowsPut.{row-back, row-before, kind-before, unmade-kind, call-back, link-had, link-back, key-back}
 use Rattle.statement.proofs.EveryRow.{all-row}
 use Rattle.keys.specs.Keys.{treeMix, SeenMix}
-use Rattle.calls.specs.Index.{slot, OnMade, LastOf, Keyed}
+use Rattle.calls.specs.Index.{slot, keyOf, OnMade, LastOf, Linked, Keyed}
 
 -- ---- rows that make a call
 
@@ -43,7 +43,7 @@ pub keyed-none : (ws ms rs : List ℕ) {heads : List ℕ} → length heads ≡ n
     Keyed ws ms rs heads 0
 keyed-none ws ms rs {heads} wide blank =
     record {
-      key = λ k. 0;
+      mixAt = λ k. 0;
       mixed = λ k l. absurd (omega arith);
       starts = λ s l.
           rw (blank s)
@@ -64,7 +64,7 @@ pub keyed-still : {ws ms rs heads : List ℕ} {count : ℕ} (ms′ : List ℕ) �
     Keyed ws ms rs heads count → Keyed ws ms′ rs heads count
 keyed-still {ws} {ms} {rs} {heads} {count} ms′ still x =
     record {
-      key = x .key;
+      mixAt = x .mixAt;
       mixed = λ k l.
           on-root _ _ (rowAt rs k) (x .mixed k l)
           (mix-still k (rowAt rs k) (λ temporary. all-row _ rs count k (still temporary) l));
@@ -74,27 +74,27 @@ keyed-still {ws} {ms} {rs} {heads} {count} ms′ still x =
     }
   where
     same-mix : (k b : ℕ) → ((temporary : ℕ → Loc) → seen temporary ws ms′ b ≡ seen temporary ws ms b) →
-        SeenMix ws ms b (x .key k) → SeenMix ws ms′ b (x .key k)
+        SeenMix ws ms b (x .mixAt k) → SeenMix ws ms′ b (x .mixAt k)
     same-mix k b e h temporary n f l = h temporary n f l ∙ ap (treeMix temporary) (sym (e temporary))
 
     mix-still : (k : ℕ) (r : Row) →
         ((temporary : ℕ → Loc) → OnRoot (λ b. seen temporary ws ms′ b ≡ seen temporary ws ms b) r) →
-        OnRoot (λ b. SeenMix ws ms b (x .key k) → SeenMix ws ms′ b (x .key k)) r
+        OnRoot (λ b. SeenMix ws ms b (x .mixAt k) → SeenMix ws ms′ b (x .mixAt k)) r
     mix-still k (Given p b) e = same-mix k b e
     mix-still k (Copied p j) e = tt
     mix-still k (Kept m b) e = same-mix k b e
     mix-still k (Passed m j) e = tt
     mix-still k (Made m b) e = same-mix k b e
 
--- ---- words are put after count rows, and the keys before are kept
+-- ---- words are put after count rows, and the mixes before are kept
 
-module _ (key key′ : ℕ → ℕ) (rs : List ℕ) (count : ℕ) (xs : List ℕ)
-    (kept : (j : ℕ) → j < count → key′ j ≡ key j) where
+module _ (mixAt mixAt′ : ℕ → ℕ) (rs : List ℕ) (count : ℕ) (xs : List ℕ)
+    (kept : (j : ℕ) → j < count → mixAt′ j ≡ mixAt j) where
   abbrev rs′ : List ℕ
   rs′ = sets rs (3 * count) xs
 
   -- a chain is kept
-  last-kept : {s v : ℕ} (high : ℕ) → high ≤ count → LastOf key rs s high v → LastOf key′ rs′ s high v
+  last-kept : {s v : ℕ} (high : ℕ) → high ≤ count → LastOf mixAt rs s high v → LastOf mixAt′ rs′ s high v
   last-kept {s} {v} high h x =
       let below = x .below in
       record {
@@ -105,8 +105,8 @@ module _ (key key′ : ℕ → ℕ) (rs : List ℕ) (count : ℕ) (xs : List ℕ
       }
 
   -- and goes on past a row that is not of it
-  last-more : {s v : ℕ} → LastOf key rs s count v → (slot (key′ count) ≡ s → Unmade (rowAt rs′ count)) →
-      LastOf key′ rs′ s (count + 1) v
+  last-more : {s v : ℕ} → LastOf mixAt rs s count v → (slot (mixAt′ count) ≡ s → Unmade (rowAt rs′ count)) →
+      LastOf mixAt′ rs′ s (count + 1) v
   last-more {s} {v} x u =
       let y = last-kept count (omega arith) x in
       record {
@@ -118,12 +118,12 @@ module _ (key key′ : ℕ → ℕ) (rs : List ℕ) (count : ℕ) (xs : List ℕ
             (λ l. let q : j ≡ count = omega arith in rw q (u (rw q at e)));
       }
 
-  -- the links before are kept
-  goes-kept : ((k : ℕ) → k < count → HasLink rs k → LastOf key rs (slot (key k)) k (linkAt rs k)) →
-      (k : ℕ) → k < count → HasLink rs′ k → LastOf key′ rs′ (slot (key′ k)) k (linkAt rs′ k)
+  -- the links and keys before are kept
+  goes-kept : Linked mixAt rs count → Linked mixAt′ rs′ count
   goes-kept goes k l h =
       let kind = kind-before rs count xs k l in
-      rw (kept k l, kind) (last-kept k (omega arith) (goes k l (rw kind at h)))
+      let gone = goes k l (rw kind at h) in
+      rw (kept k l, kind) (last-kept k (omega arith) (gone .0), gone .1)
 
 -- ---- a row that makes no call is put
 
@@ -134,15 +134,15 @@ module _ (rs : List ℕ) (count : ℕ) (row : Row) (unmade : Unmade row) (room :
   pub keyed-put : {ws ms heads : List ℕ} → Keyed ws ms rs heads count →
       Keyed ws ms (sets rs (3 * count) (rowWords row)) heads (count + 1)
   keyed-put x =
-      let key = x .key in
+      let mixAt = x .mixAt in
       record {
-        key = key;
+        mixAt = mixAt;
         mixed = λ k l.
             below-or k count (λ b. rw (row-before rs count (rowWords row) k b) (x .mixed k b))
             (λ b. let q : k ≡ count = omega arith in rw (q, here) (on-unmade _ row unmade));
-        starts = λ s l. last-more key key rs count (rowWords row) (λ j b. refl) (x .starts s l) (λ e. rw here unmade);
+        starts = λ s l. last-more mixAt mixAt rs count (rowWords row) (λ j b. refl) (x .starts s l) (λ e. rw here unmade);
         goes = λ k l h.
-            below-or k count (λ b. goes-kept key key rs count (rowWords row) (λ j c. refl) (x .goes) k b h)
+            below-or k count (λ b. goes-kept mixAt mixAt rs count (rowWords row) (λ j c. refl) (x .goes) k b h)
             (λ b.
             let q : k ≡ count = omega arith in
             absurd (omega (arith, rw q at h, unmade-kind rs count row unmade (omega arith))));
@@ -151,71 +151,72 @@ module _ (rs : List ℕ) (count : ℕ) (row : Row) (unmade : Unmade row) (room :
 
 -- ---- a call is put, at the head of its chain
 
-module _ (i m next : ℕ) {ws ms rs heads : List ℕ} {count : ℕ} (room : RoomFor rs (count + 1))
+module _ (i m next : ℕ) {ws ms rs heads : List ℕ} {count : ℕ} (room : RoomFor rs (count + 1)) (few : count < rowLimit)
     (ours : SeenMix ws ms i m) (x : Keyed ws ms rs heads count) where
   abbrev link : ℕ
   link = getD heads (slot m) 0
 
   abbrev words : List ℕ
-  words = callWords link next i
+  words = callWords link (keyOf m) next i
 
   abbrev called : List ℕ
   called = sets rs (3 * count) words
 
-  abbrev key : ℕ → ℕ
-  key j = cond (eqb j count) m (x .key j)
+  abbrev mixes : ℕ → ℕ
+  mixes j = cond (eqb j count) m (x .mixAt j)
 
-  key-here : key count ≡ m
-  key-here = rw (eq-eqb count count refl) refl
+  mix-here : mixes count ≡ m
+  mix-here = rw (eq-eqb count count refl) refl
 
-  key-kept : (j : ℕ) → j < count → key j ≡ x .key j
-  key-kept j l = rw (ne-eqb j count (λ e. omega arith)) refl
+  mix-kept : (j : ℕ) → j < count → mixes j ≡ x .mixAt j
+  mix-kept j l = rw (ne-eqb j count (λ e. omega arith)) refl
 
   low : slot m < nodeLimit
   low = omega arith
 
-  back : (rowAt called count ≡ Made next i) × (getD called (3 * count) 0 ≡ 5 + link)
-  back = call-back rs count link next i (omega arith)
+  link-low : link < linkEnd
+  link-low = omega (arith, x .starts (slot m) low .below)
 
   head-here : getD (set heads (slot m) (count + 1)) (slot m) 0 ≡ count + 1
   head-here = getD-set-same heads (slot m) (count + 1) 0 (omega (arith, x .wide))
 
   -- its chain begins with it
-  starts-here : LastOf key called (slot m) (count + 1) (count + 1)
+  starts-here : LastOf mixes called (slot m) (count + 1) (count + 1)
   starts-here =
       let q : count + 1 - 1 ≡ count = omega arith in
       record {
         below = omega arith;
-        linked = λ p. rw q (omega (arith, back .1));
-        own = λ p. rw q (ap slot key-here);
+        linked = λ p. rw q (link-had rs count link (keyOf m) next i (omega arith));
+        own = λ p. rw q (ap slot mix-here);
         none = λ j a b e. absurd (omega arith);
       }
 
-  starts-all : (s : ℕ) → s < nodeLimit → LastOf key called s (count + 1) (getD (set heads (slot m) (count + 1)) s 0)
+  starts-all : (s : ℕ) → s < nodeLimit → LastOf mixes called s (count + 1) (getD (set heads (slot m) (count + 1)) s 0)
   starts-all s l =
       equal-or s (slot m)
       (λ e. rw (e, head-here) starts-here)
       (λ e.
       rw (getD-set-other heads (slot m) s (count + 1) 0 e)
-      (last-more (x .key) key rs count words key-kept (x .starts s l)
-      (λ q. absurd (e (sym (sym (ap slot key-here) ∙ q))))))
+      (last-more (x .mixAt) mixes rs count words mix-kept (x .starts s l)
+      (λ q. absurd (e (sym (sym (ap slot mix-here) ∙ q))))))
 
-  goes-all : (k : ℕ) → k < count + 1 → HasLink called k → LastOf key called (slot (key k)) k (linkAt called k)
+  goes-all : Linked mixes called (count + 1)
   goes-all k l h =
-      below-or k count (λ b. goes-kept (x .key) key rs count words key-kept (x .goes) k b h)
+      below-or k count (λ b. goes-kept (x .mixAt) mixes rs count words mix-kept (x .goes) k b h)
       (λ b.
       let q : k ≡ count = omega arith in
-      let led : linkAt called count ≡ link = omega (arith, back .1) in
-      rw (q, key-here, led) (last-kept (x .key) key rs count words key-kept count (omega arith) (x .starts (slot m) low)))
+      let led = link-back rs count link (keyOf m) next i (omega arith) link-low in
+      let kept = last-kept (x .mixAt) mixes rs count words mix-kept count (omega arith) (x .starts (slot m) low) in
+      rw (q, mix-here) (rw led kept, key-back rs count link (keyOf m) next i (omega arith) link-low))
 
   pub keyed-called : Keyed ws ms called (set heads (slot m) (count + 1)) (count + 1)
   keyed-called =
       record {
-        key = key;
+        mixAt = mixes;
         mixed = λ k l.
             below-or k count
-            (λ b. rw (row-before rs count words k b, key-kept k b) (x .mixed k b))
-            (λ b. let q : k ≡ count = omega arith in rw (q, back .0, key-here) ours);
+            (λ b. rw (row-before rs count words k b, mix-kept k b) (x .mixed k b))
+            (λ b. let q : k ≡ count = omega arith in rw (q, call-back rs count link (keyOf m) next i (omega arith), mix-here) ours);
         starts = starts-all;
         goes = goes-all;
         wide = length-set heads (slot m) (count + 1) ∙ x .wide;

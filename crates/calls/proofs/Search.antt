@@ -8,7 +8,7 @@ use Prim.Native.Nat.{ℕ, zero, suc, _+_, _-_, _<_, _≤_}
 use native.Mathlib.Omega.{arith}
 use borrow.Author.Tests.{eq-eqb, ne-eqb}
 use lib.ListN.{getD, set, length-set}
-use Rattle.limits.specs.Limits.{nodeLimit, temporaryLimit}
+use Rattle.limits.specs.Limits.{temporaryLimit}
 use Rattle.symbol.specs.declared.Loc.{Loc}
 use Rattle.definitions.specs.Tree.{Tree}
 use Rattle.definitions.specs.Same.{same}
@@ -20,14 +20,15 @@ use Rattle.node.proofs.Nodes.{equal-or}
 use Rattle.statement.specs.declared.Row.{Row}
 use Rattle.statement.specs.declared.Row.the-variants.{Given, Copied, Kept, Passed, Made}
 use Rattle.statement.specs.declared.State.{State}
-use Rattle.statement.specs.Rows.{HasLink, linkAt, rowAt, rowsFrom, rowStatement, statementsOf}
+use Rattle.statement.specs.Rows.{RoomFor, HasLink, linkAt, keyAt, rowAt, rowsFrom, rowStatement, statementsOf}
 use Rattle.statement.specs.Rowing.{All}
 use Rattle.statement.proofs.EveryRow.{all-one, all-row, rows-left, roots-map, named-up}
 use Rattle.compare.specs.Comparison.{Comparable}
 use Rattle.keys.specs.Keys.{SeenMix}
 use Rattle.calls.specs.declared.Trimmed.{Trimmed}
-use Rattle.calls.specs.Index.{slot, LastOf, Keyed, Sought, SeekReady}
-use Rattle.calls.specs.Calls.{CallSought, CallFresh, foundAs, orElse, CallFound, CallReady, CallMade, CallBroken, found, made}
+use Rattle.calls.specs.Index.{slot, keyOf, LastOf, Keyed, Sought, SeekReady}
+use Rattle.calls.specs.Calls.{CallSought, CallFresh, foundAs, orElse, CallFound, RowAsked}
+use Rattle.calls.specs.Calls.{CallReady, CallMade, CallBroken, found, made}
 use Rattle.calls.proofs.OneRow.{other-mix-misses, unmade-misses}
 use Rattle.calls.proofs.Keying.{keyed-called}
 
@@ -110,33 +111,37 @@ sought-row rs count s k l =
     }
 
 -- the rows from `high` on were looked at, with the answer so far, and the chain goes on with v
-pub record Searched (ws ms rs : List ℕ) (i count v answer : ℕ) : Type 0 where
+pub record Searched (ws ms rs : List ℕ) (i key count v answer : ℕ) : Type 0 where
   pub asked : CallSought ws i (rowsFrom rs 0 count)
   pub by : Sought ws ms rs i count
   pub high : ℕ
   pub within : high ≤ count
-  pub here : LastOf (by .key) rs (slot (by .mix)) high v
+  pub here : LastOf (by .mixAt) rs (slot (by .mix)) high v
+  pub own : key ≡ keyOf (by .mix)
   pub past : CallFound ws ms i (rowsFrom rs high (count - high)) answer
 
-module _ {ws ms rs : List ℕ} {i count v answer : ℕ} (x : Searched ws ms rs i count v answer) where
+module _ {ws ms rs : List ℕ} {i key count v answer : ℕ} (x : Searched ws ms rs i key count v answer) where
   abbrev by : Sought ws ms rs i count
   by = x .by
 
-  -- a row that is not in the chain makes another call, or none
+  -- a row with another mix makes another call, or none
+  mix-misses : (j : ℕ) → j < count → by .mixAt j ≢ by .mix → CallFound ws ms i (rowAt rs j ∷ []) 0
+  mix-misses j l apart = by-row (rowAt rs j) refl
+    where
+      by-row : (r : Row) → rowAt rs j ≡ r → CallFound ws ms i (rowAt rs j ∷ []) 0
+      by-row (Given p b) e = unmade-misses ws ms i e tt
+      by-row (Copied p k) e = unmade-misses ws ms i e tt
+      by-row (Kept m b) e = unmade-misses ws ms i e tt
+      by-row (Passed m k) e = unmade-misses ws ms i e tt
+      by-row (Made m root) e =
+          other-mix-misses (sought-row rs count (x .asked) j l) e ms (rw e at (by .mixed j l)) (by .ours) apart
+
+  -- so does one that is not in the chain
   row-misses : (j : ℕ) → v ≤ j → j < x .high → CallFound ws ms i (rowAt rs j ∷ []) 0
   row-misses j a b =
-      equal-or (slot (by .key j)) (slot (by .mix))
+      equal-or (slot (by .mixAt j)) (slot (by .mix))
       (λ e. unmade-misses ws ms i refl (x .here .none j a b e))
-      (λ e. by-row (rowAt rs j) refl (λ q. e (ap slot q)))
-    where
-      by-row : (r : Row) → rowAt rs j ≡ r → by .key j ≢ by .mix → CallFound ws ms i (rowAt rs j ∷ []) 0
-      by-row (Given p b) e apart = unmade-misses ws ms i e tt
-      by-row (Copied p k) e apart = unmade-misses ws ms i e tt
-      by-row (Kept m b) e apart = unmade-misses ws ms i e tt
-      by-row (Passed m k) e apart = unmade-misses ws ms i e tt
-      by-row (Made m root) e apart =
-          let l : j < count = omega (arith, x .within) in
-          other-mix-misses (sought-row rs count (x .asked) j l) e ms (rw e at (by .mixed j l)) (by .ours) apart
+      (λ e. mix-misses j (omega (arith, x .within)) (λ q. e (ap slot q)))
 
   -- so what was found is found among the rows from v on
   rows-past : (d w : ℕ) → v ≤ w → w + d ≡ x .high → CallFound ws ms i (rowsFrom rs w (count - w)) answer
@@ -157,21 +162,27 @@ module _ {ws ms rs : List ℕ} {i count v answer : ℕ} (x : Searched ws ms rs i
     pub chain-within : last < count
     chain-within = omega (arith, more, x .here .below, x .within)
 
-    pub chain-asked : {row : Row} → row ≡ rowAt rs last → CallSought ws i (row ∷ [])
-    chain-asked u = rw u (sought-row rs count (x .asked) last chain-within)
-
     pub chain-linked : HasLink rs last
     chain-linked = x .here .linked (omega (arith, more))
 
-    chain-goes : LastOf (by .key) rs (slot (by .mix)) last (linkAt rs last)
+    chain-goes : LastOf (by .mixAt) rs (slot (by .mix)) last (linkAt rs last) × (keyAt rs last ≡ keyOf (by .mixAt last))
     chain-goes = rw (x .here .own (omega (arith, more))) at (by .goes last chain-within chain-linked)
 
-    pub chain-falls : linkAt rs last < v
-    chain-falls = omega (arith, more, chain-goes .below)
+    pub chain-asked : RoomFor rs count → RowAsked ws ms rs i key last
+    chain-asked room =
+        record {
+          room = omega (arith, chain-within, room);
+          linked = chain-linked;
+          sought = sought-row rs count (x .asked) last chain-within;
+          apart = λ e. mix-misses last chain-within (λ q. e (chain-goes .1 ∙ ap keyOf q ∙ sym (x .own)));
+        }
 
-    pub chain-next : {row : Row} {m z w : ℕ} → row ≡ rowAt rs last → CallFound ws ms i (row ∷ []) m → z ≡ orElse m answer →
-        w ≡ linkAt rs last → Searched ws ms rs i count w z
-    chain-next {row} {m} u hit ez ew =
+    pub chain-falls : linkAt rs last < v
+    chain-falls = omega (arith, more, chain-goes .0 .below)
+
+    pub chain-next : {m z w : ℕ} → CallFound ws ms i (rowAt rs last ∷ []) m → z ≡ orElse m answer → w ≡ linkAt rs last →
+        Searched ws ms rs i key count w z
+    chain-next hit ez ew =
         let up : last + 1 ≡ v = omega (arith, more) in
         rw (ez, ew)
         record {
@@ -179,8 +190,9 @@ module _ {ws ms rs : List ℕ} {i count v answer : ℕ} (x : Searched ws ms rs i
           by = by;
           high = last;
           within = omega (arith, chain-within);
-          here = chain-goes;
-          past = rw (rows-left rs count last chain-within, up) (found-first (rw u at hit) searched-on);
+          here = chain-goes .0;
+          own = x .own;
+          past = rw (rows-left rs count last chain-within, up) (found-first hit searched-on);
         }
 
   pub chain-ends : v ≡ 0 → CallFound ws ms i (rowsFrom rs 0 count) answer
@@ -190,8 +202,8 @@ none-found : (ws ms : List ℕ) (i : ℕ) → CallFound ws ms i [] 0
 unfolding seek statementsOf
 none-found ws ms i = record { mark = λ next h. omega arith; is = λ temporary f. refl }
 
-pub search-starts : {ws ms : List ℕ} (rs : List ℕ) {i : ℕ} (count : ℕ) {v : ℕ} → SeekReady ws ms rs i v count →
-    CallSought ws i (rowsFrom rs 0 count) → Searched ws ms rs i count v 0
+pub search-starts : {ws ms : List ℕ} (rs : List ℕ) {i key : ℕ} (count : ℕ) {v : ℕ} → SeekReady ws ms rs i v key count →
+    CallSought ws i (rowsFrom rs 0 count) → Searched ws ms rs i key count v 0
 unfolding rowsFrom
 search-starts {ws} {ms} rs {i} count r s =
     let none-left : count - count ≡ 0 = omega arith in
@@ -201,6 +213,7 @@ search-starts {ws} {ms} rs {i} count r s =
       high = count;
       within = omega arith;
       here = r .first;
+      own = r .own;
       past = rw none-left (none-found ws ms i);
     }
 
@@ -236,21 +249,19 @@ module _ {ws ms rs : List ℕ} {n i : ℕ} {s : State} (ready : CallReady ws ms 
       }
 
   -- with sharing off none is sought
-  pub broken-off : {sharing : Bool} {rs′ hs : List ℕ} {r : Trimmed} → sharing ≡ false → CallMade rs rs′ i s 0 r →
+  pub broken-off : {sharing : Bool} {rs′ hs : List ℕ} {r : Trimmed} → sharing ≡ false → CallMade rs rs′ i s 0 0 r →
       CallBroken sharing ws ms rs rs′ hs hs n i s r
-  broken-off off x = rw off (made 0 x (λ temporary f. refl) refl (λ e. absurd (false≢true e)))
+  broken-off off x = rw off (made 0 0 x (λ temporary f. refl) refl (λ e. absurd (false≢true e)))
 
   -- with sharing on it is, by its mix
   module _ {hs : List ℕ} (keyed : Keyed ws ms rs hs (s .count)) {m at : ℕ} (ours : SeenMix ws ms i m) (e : at ≡ slot m) where
-    pub slot-low : at < nodeLimit
-    slot-low = omega arith
-
-    pub chain-sought : {v : ℕ} → v ≡ getD hs at 0 → SeekReady ws ms rs i v (s .count)
-    chain-sought u =
+    pub chain-sought : {v key : ℕ} → v ≡ getD hs at 0 → key ≡ keyOf m → SeekReady ws ms rs i v key (s .count)
+    chain-sought u k =
         rw (u, e)
         record {
-          by = record { key = keyed .key; mixed = keyed .mixed; goes = keyed .goes; mix = m; ours = ours };
+          by = record { mixAt = keyed .mixAt; mixed = keyed .mixed; goes = keyed .goes; mix = m; ours = ours };
           first = keyed .starts (slot m) (omega arith);
+          own = k;
         }
 
     pub chain-low : getD hs at 0 ≤ s .count
@@ -263,8 +274,10 @@ module _ {ws ms rs : List ℕ} {n i : ℕ} {s : State} (ready : CallReady ws ms 
           found refl refl z u (omega (arith, q)) (h .mark (s .next) (ready .named))
           (λ temporary f. h .is temporary (ready-fresh f) ∙ found-some temporary z q)
 
-      pub broken-made : z ≡ 0 → {rs′ : List ℕ} {r : Trimmed} → CallMade rs rs′ i s (getD hs at 0) r →
+      pub broken-made : z ≡ 0 → {rs′ : List ℕ} {key : ℕ} {r : Trimmed} → key ≡ keyOf m →
+          CallMade rs rs′ i s (getD hs at 0) key r →
           CallBroken true ws ms rs rs′ hs (set hs at (s .count + 1)) n i s r
-      broken-made q x =
-          made (getD hs at 0) x (λ temporary f. rw q at (h .is temporary (ready-fresh f)))
-          (length-set hs at (s .count + 1)) (λ on. rw (x .put, e) (keyed-called i m (s .next) (ready .room) ours keyed))
+      broken-made q {rs′} {key} k x =
+          made (getD hs at 0) key x (λ temporary f. rw q at (h .is temporary (ready-fresh f)))
+          (length-set hs at (s .count + 1))
+          (λ on. rw (x .put, e, k) (keyed-called i m (s .next) (ready .room) (ready .few) ours keyed))

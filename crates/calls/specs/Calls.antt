@@ -1,8 +1,9 @@
 -- What the search for an earlier call asks and answers, and what a call at a node comes to.
 use mathlib.Core.Path.{_≡_}
+use mathlib.Core.Logic.{_≢_}
 use Prim.Native.Nat.{ℕ, _+_, _-_, _*_, _<_, _≤_}
 use mathlib.Core.Bool.{Bool, cond, true}
-use mathlib.Core.List.{List}
+use mathlib.Core.List.{List, [], _∷_}
 use mathlib.Core.Option.{Option, none, some}
 use lib.ListN.{length}
 use lib.Seq.{sets}
@@ -14,7 +15,7 @@ use Rattle.node.specs.Nodes.{nodeAt, endAt, isFunction, Table}
 use Rattle.node.specs.Views.{seen, Fresh}
 use Rattle.statement.specs.declared.Row.{Row}
 use Rattle.statement.specs.declared.State.{State}
-use Rattle.statement.specs.Rows.{RoomFor, callWords, rowsFrom, statementsOf}
+use Rattle.statement.specs.Rows.{RoomFor, callWords, HasLink, keyAt, rowAt, rowsFrom, statementsOf}
 use Rattle.statement.specs.Rowing.{All, OnRoot, NumberedBelow}
 use Rattle.compare.specs.Comparison.{Comparable}
 use Rattle.keys.specs.Keys.{MarksLow}
@@ -51,6 +52,13 @@ pub record CallFound (ws ms : List ℕ) (i : ℕ) (rows : List Row) (m : ℕ) : 
   pub mark : (next : ℕ) → All (NumberedBelow next) rows → m ≤ next
   pub is : (temporary : ℕ → Loc) → CallFresh temporary ws i rows → sought true temporary ws ms i rows ≡ foundAs temporary m
 
+-- row k may be asked for the call at node i: a row with another key makes another call
+pub record RowAsked (ws ms rs : List ℕ) (i key k : ℕ) : Type 0 where
+  pub room : RoomFor rs (k + 1)
+  pub linked : HasLink rs k
+  pub sought : CallSought ws i (rowAt rs k ∷ [])
+  pub apart : keyAt rs k ≢ key → CallFound ws ms i (rowAt rs k ∷ []) 0
+
 -- a call at node i of a table may be broken out, after so many rows and temporaries
 pub record CallReady (ws ms rs : List ℕ) (n i : ℕ) (s : State) : Type 0 where
   pub table : Table ws n
@@ -63,9 +71,9 @@ pub record CallReady (ws ms rs : List ℕ) (n i : ℕ) (s : State) : Type 0 wher
   pub placed : All (OnRoot (λ b. b < n)) (rowsFrom rs 0 (s .count))
   pub named : All (NumberedBelow (s .next)) (rowsFrom rs 0 (s .count))
 
--- a row was put for it, with a link
-pub record CallMade (rs rs′ : List ℕ) (i : ℕ) (s : State) (link : ℕ) (r : Trimmed) : Type 0 where
-  pub put : rs′ ≡ sets rs (3 * s .count) (callWords link (s .next) i)
+-- a row was put for it, with a link and a key
+pub record CallMade (rs rs′ : List ℕ) (i : ℕ) (s : State) (link key : ℕ) (r : Trimmed) : Type 0 where
+  pub put : rs′ ≡ sets rs (3 * s .count) (callWords link key (s .next) i)
   pub answer : r ≡ record { next = s .next + 1; count = s .count + 1; ershov = 1; temp = s .next + 1 }
 
 -- it was broken out: an earlier call gives its temporary, or a row is put for it
@@ -75,7 +83,7 @@ pub data CallBroken (sharing : Bool) (ws ms rs rs′ hs hs′ : List ℕ) (n i :
       → ((temporary : ℕ → Loc) → Fresh temporary ws n →
       sought sharing temporary ws ms i (rowsFrom rs 0 (s .count)) ≡ some (temporary (m - 1)))
       → CallBroken sharing ws ms rs rs′ hs hs′ n i s r
-  made : (link : ℕ) → CallMade rs rs′ i s link r
+  made : (link key : ℕ) → CallMade rs rs′ i s link key r
       → ((temporary : ℕ → Loc) → Fresh temporary ws n → sought sharing temporary ws ms i (rowsFrom rs 0 (s .count)) ≡ none)
       → length hs′ ≡ length hs → Indexed sharing ws ms rs′ hs′ (s .count + 1)
       → CallBroken sharing ws ms rs rs′ hs hs′ n i s r

@@ -26,6 +26,14 @@ pub const SMALL: usize = 128;
 // The trees in which sharing looks nodes up by their mixes: so many that few nodes share one.
 pub const SLOTS: usize = 512;
 
+// Where the links of call rows end, above the number of any row, and the keys beside them end: both fit a word.
+pub const LINK_END: u32 = 2048;
+
+pub const KEY_END: u64 = 1048576;
+
+// The lowest of a mix's uppermost bits, which are its key.
+pub const KEYED_FROM: u64 = 0xffff_ffff_ffff_ffff / KEY_END + 1;
+
 // The levels of a tree.
 pub const DEPTH: u32 = 64;
 

@@ -6,7 +6,7 @@ use Rattle.calls.proofs.new_call.Statement.{statement}
 use Rattle.calls.proofs.new_call.Tie as tie
 
 put-call-requires : tie.Need-put-call-requires
-put-call-requires c κs = let s = c .before .before in (s .pre .0, omega (arith, s .pre .3, s .pre .1))
+put-call-requires c κs = let s = c .before .before in (s .pre .0, omega (arith, s .pre .3, s .pre .1), s .pre .4)
 
 returns : tie.Need-returns
 returns c = let put = c .before .before .before .before in record { put = put .put-call .ensures; answer = refl }
