@@ -2,6 +2,8 @@
 
 use oracle::sheet::{Place, Sheet, Statement, Tree, MEMORY, NODE_LIMIT};
 
+use crate::colliding;
+
 const SHARING: u8 = 1;
 const FUSED: u8 = 2;
 const FIRST: u16 = 100;
@@ -159,6 +161,11 @@ fn leaning_choices(leaves: Vec<Tree>) -> Tree {
         .expect("a leaf")
 }
 
+/// f0 over sums of two places whose indexes have one sum: by a mix that is nearly linear they would be hard to tell apart.
+fn calls_of_one_sum() -> Vec<u8> {
+    sheet(8, SHARING, (0..256).map(|i| call(0, binary(PLUS, leaf(i), leaf(2_000 - i)))))
+}
+
 /// The shapes that are written down here, by name.
 pub fn shapes() -> Vec<Shape> {
     let negated = |i| chain(63, leaf(i), |tree| Tree::Unary(NEG, Box::new(tree)));
@@ -189,6 +196,9 @@ pub fn shapes() -> Vec<Shape> {
             "511 powers of 2^31 - 1, refused for room",
             sheet(2, 0, [longest_powers(&different_leaves(512))]),
         ),
+        ("256 calls over sums of one sum of indexes", calls_of_one_sum()),
+        ("511 choices with mixes that end alike", sheet(16, SHARING, [colliding::choices(512)])),
+        ("504 calls of two with mixes that end alike", sheet(8, SHARING, colliding::calls(8, 63))),
     ];
     all.into_iter().map(|(name, file)| Shape { name, file }).collect()
 }

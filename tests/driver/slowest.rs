@@ -1,6 +1,7 @@
 //! Looks for the slowest sheet by mutation: the one that takes ours longest so far is changed here and there, and what takes
 //! longer still is kept.
 
+mod colliding;
 mod library;
 mod shapes;
 

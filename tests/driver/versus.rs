@@ -1,5 +1,6 @@
 //! Another build of the library and this one on the same sheets, in one process and in turns: how much longer ours takes.
 
+mod colliding;
 mod library;
 mod other;
 mod rows;
