@@ -1,4 +1,5 @@
 // Calls: an earlier one that is the same is sought, and a new one gets a row and a temporary.
+#![tactic(auto)]
 ghost use Rattle.std.specs.Prelude.{◌≡◌, [], ◌∷◌, ◌+◌, ◌<◌, ◌≤◌};
 ghost use Rattle.limits.specs.Limits.{row_limit, temporary_limit};
 ghost use Rattle.statement.specs.Rows.{key_end, RoomFor, row_at, rows_from};
@@ -10,7 +11,7 @@ use statement::{Row, State};
 
 // What trimming goes by: the nodes of the sheet, its scratch count, and whether earlier calls are sought. It goes down every tree,
 // so it is small enough for a register.
-#[derive(Drop)]
+#[derive(Clone, Copy)]
 pub struct Settings {
     pub nodes: u16,
     pub scratch: u8,
@@ -18,7 +19,7 @@ pub struct Settings {
 }
 
 // What trimming a tree leaves: the next temporary and the rows so far; its Ershov number; the mark that its root is to have, or 0.
-#[derive(Drop)]
+#[derive(Clone, Copy)]
 pub struct Trimmed {
     pub next: u32,
     pub count: u32,

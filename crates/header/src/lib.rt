@@ -1,4 +1,5 @@
 // A sheet's header, read once and handed on by value.
+#![tactic(auto)]
 ghost use Rattle.std.specs.Prelude.{◌≡◌, ◌+◌, ◌<◌, ◌≤◌, length};
 ghost use Rattle.definitions.specs.Sheet.{number16 as number_at, word32 as word_at, flag};
 ghost use Rattle.operation.specs.Operators.{whole_of};
@@ -7,7 +8,7 @@ ghost use Rattle.header.specs.Settings.{header_of, temporary_of, Indexed};
 use symbol::Loc;
 
 // The scratch count, the flags, the step between temporaries, the first one's index, and the statement count.
-#[derive(Drop)]
+#[derive(Clone, Copy)]
 pub struct Header {
     pub scratch: u32,
     pub sharing: bool,

@@ -1,4 +1,5 @@
 // The mix of a tree as its marks show it: it picks the earlier calls that a call is compared with.
+#![tactic(auto)]
 ghost use Rattle.compare.specs.Comparison.{Comparable};
 ghost use Rattle.keys.specs.Keys.{MarksLow, SeenMix, ViewMix};
 

@@ -1,4 +1,6 @@
 // The limits of a sheet, by name, and the arrays that they size.
+#![tactic(auto)]
+
 ghost use Rattle.std.specs.Prelude.{◌≡◌};
 ghost use Rattle.limits.specs.Limits.{node_limit, depth_limit, row_limit};
 

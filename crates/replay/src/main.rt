@@ -1,4 +1,5 @@
 // Replays the recorded vectors: compiles each sheet and compares the answer with what is recorded.
+#![tactic(auto)]
 ghost use Rattle.std.specs.Prelude.{◌≡◌, ◌*◌, ◌≤◌, length, drop};
 ghost use Rattle.limits.specs.Limits.{work_words};
 ghost use Rattle.definitions.specs.Answer.{answer};
@@ -11,7 +12,7 @@ use builder::Answer;
 use limits::{BYTES, TEXT, WORK};
 
 // How many vectors there are, and how many of them differ.
-#[derive(Drop)]
+#[derive(Clone, Copy)]
 struct Tally {
     count: usize,
     wrong: usize,

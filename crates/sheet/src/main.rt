@@ -1,4 +1,5 @@
 // Reads a sheet from standard input and prints its list, or the number of its refusal.
+#![tactic(auto)]
 ghost use Rattle.std.specs.Prelude.{◌≡◌, ◌≤◌, length, take};
 ghost use Rattle.io.specs.Counts.{IsPrefixLen};
 ghost use Rattle.limits.specs.Limits.{work_words, text_limit};

@@ -1,4 +1,5 @@
 // The printed text, a line at a time, and that of a whole answer.
+#![tactic(auto)]
 ghost use Rattle.std.specs.Prelude.{◌≡◌, [], ◌∷◌, ◌++◌, ◌+◌, ◌*◌, ◌≤◌, ◌<◌, length};
 ghost use Rattle.limits.specs.Limits.{line_limit};
 ghost use Rattle.symbol.specs.Place.{word_place};
@@ -13,7 +14,7 @@ use operation::Name;
 use symbol::Loc;
 
 // A line: LINE bytes, and how many of them are its text.
-#[derive(Drop)]
+#[derive(Clone, Copy)]
 pub struct Line {
     pub bytes: [u8; LINE],
     pub len: usize,

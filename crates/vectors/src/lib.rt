@@ -1,4 +1,5 @@
 // The recorded vectors as text: what stands where, and the place after it.
+#![tactic(auto)]
 ghost use Rattle.std.specs.Prelude.{◌≡◌, ◌+◌, ◌*◌, ◌≤◌, ◌<◌, true, false, length, take, drop};
 ghost use Rattle.std.proofs.lemmas.List.Edits.{sets};
 ghost use Rattle.vectors.specs.Vectors.{stands_at, place_after, end_line, line_length, end_length, comments_length};
@@ -7,7 +8,7 @@ ghost use Rattle.vectors.specs.Vectors.{digit_of, byte_of, bytes_at, number_from
 use limits::WORK;
 
 // A number read, or a count, and the place after it.
-#[derive(Drop)]
+#[derive(Clone, Copy)]
 pub struct Found {
     pub n: usize,
     pub at: usize,

@@ -1,4 +1,5 @@
 // The call for C and Rust: the answer as three numbers.
+#![tactic(auto)]
 ghost use Rattle.std.specs.Prelude.{◌≡◌};
 ghost use Rattle.builder.specs.Compiled.{number_of, ops_of, temps_of};
 ghost use Rattle.zubmanger.specs.Call.{Called};
@@ -7,7 +8,7 @@ use builder::Answer;
 
 // 0 and the counts of operations and temporaries, or a refusal's number and two zeros.
 #[repr(C)]
-#[derive(Drop)]
+#[derive(Clone, Copy)]
 pub struct Numbers {
     pub number: u32,
     pub ops: u32,
