@@ -1,5 +1,6 @@
 // A sheet's header, read once and handed on by value.
 #![tactic(auto)]
+
 ghost use Rattle.std.specs.Prelude.{◌≡◌, ◌+◌, ◌<◌, ◌≤◌, length};
 ghost use Rattle.definitions.specs.Sheet.{number16 as number_at, word32 as word_at, flag};
 ghost use Rattle.operation.specs.Operators.{whole_of};

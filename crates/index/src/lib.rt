@@ -1,5 +1,6 @@
 // Where items stand that are sought by their mixes: digital search trees, one for each remainder of a mix.
 #![tactic(auto)]
+
 ghost use Rattle.std.specs.Prelude.{◌≡◌, ◌/◌};
 ghost use Rattle.index.specs.Paths.{slot_count, slot, under};
 
