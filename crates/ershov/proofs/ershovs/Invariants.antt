@@ -1,0 +1,9 @@
+-- The loop has filled in the numbers of all nodes from i on.
+use Rattle.ershov.proofs.Filling.{FilledFrom}
+use Rattle.ershov.proofs.ershovs.Given as goal
+
+abbrev pub invariant-loop-i : goal.invariant-loop-i
+invariant-loop-i l = FilledFrom l.ws l.marks l.es l.i l.n
+
+abbrev pub decreases-loop-i : goal.decreases-loop-i
+decreases-loop-i l = l.i
