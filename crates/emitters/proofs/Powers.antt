@@ -6,11 +6,11 @@ use mathlib.Core.List.{List, [], ◌∷◌, ◌++◌}
 use native.Mathlib.Omega.{arith}
 use borrow.Author.Tests.{ltb-false}
 use lib.Dec.{eqb}
-use lib.IntN.{ℤ, pos, negsuc}
+use lib.IntN.{ℤ, pos, negsuc, nat_abs}
 use lib.ListN.{length, length-append}
 use lib.Signed.{lt_z}
 use mir.Syntax.{w32}
-use mir.Val.{SFits}
+use mir.Val.{SFits, of_z}
 use mir.ValLaws.{to_z-of_z}
 use Rattle.operation.specs.Codes.{divide_code, recip_code}
 use Rattle.operation.specs.declared.Modulus.{Modulus}
@@ -21,7 +21,7 @@ use Rattle.definitions.specs.Power.{digits, closing, higher, digit_ops, gather_o
 use Rattle.definitions.proofs.PowerDigits.{digits_zero, digits_step}
 use Rattle.emitters.specs.Emitted.{Emitted, AllEmitted}
 use Rattle.emitters.proofs.Emitting.{all_then}
-use Rattle.emitters.proofs.Sign.{handed}
+use Rattle.emitters.proofs.Sign.{handed, above, below}
 
 -- a product has an operation at least
 pub product_some : (m : Modulus) (d s1 s2 : ℕ) → 0 < length (product_ops m d s1 s2)
@@ -102,3 +102,18 @@ pub not_reduced : (m : Modulus) (stable : Bool) (p : ℤ) (d s : ℕ) → SFits 
     → power_ops m stable p d s ≡ power_ops Without stable (handed p) d s
 not_reduced m stable p d s fits e =
     ap (λ (p : ℤ). power_ops m stable p d s) (sym (to_z-of_z w32 p fits)) ∙ plain m stable (handed p) d s e
+
+-- of a power of a known size, tested for its sign: its size is above 0, and its operations are those of a positive power
+module _ (m : Modulus) (stable : Bool) (p : ℤ) {size : ℕ} (d s : ℕ) (fits : SFits w32 p) (known : size ≡ nat_abs (handed p)) where
+  pub above_ops : lt_z (pos 0) (handed p) ≡ true
+      → (0 < size) × (power_ops m stable p d s ≡ positive_ops (product_ops m) size d s)
+  above_ops e = let sign = above p fits known e in (sign.0, power_above m d s stable size sign)
+
+  -- below 0, its reciprocal comes first or last
+  pub first_ops : (of_z w32 p ≡ 0 → ⊥) → lt_z (pos 0) (handed p) ≡ false → stable ≡ true
+      → (0 < size) × (power_ops m stable p d s ≡ op_uni recip_code d s ∷ positive_ops (product_ops Without) size d d)
+  first_ops n e b = let sign = below p fits known n e in (sign.0, reciprocal_first m d s size b sign)
+
+  pub last_ops : (of_z w32 p ≡ 0 → ⊥) → lt_z (pos 0) (handed p) ≡ false → stable ≡ false
+      → (0 < size) × (power_ops m stable p d s ≡ positive_ops (product_ops Without) size d s ++ (op_uni recip_code d d ∷ []))
+  last_ops n e b = let sign = below p fits known n e in (sign.0, reciprocal_last m d s size b sign)
