@@ -1,0 +1,15 @@
+-- The levels that are left fall at each turn of the cycle.
+use Rattle.std.proofs.Common.{◌+◌, ◌*◌}
+use Rattle.evaluator.proofs.+alloc_compile_compile_binary_compile_node.Given as goal
+
+abbrev pub decreases-alloc : goal.decreases-alloc
+decreases-alloc l = 4 * l.to.depth + 2
+
+abbrev pub decreases-compile : goal.decreases-compile
+decreases-compile l = 4 * l.to.depth + 1
+
+abbrev pub decreases-compile_binary : goal.decreases-compile_binary
+decreases-compile_binary l = 4 * l.to.depth + 3
+
+abbrev pub decreases-compile_node : goal.decreases-compile_node
+decreases-compile_node l = 4 * l.to.depth
