@@ -13,7 +13,6 @@ use Rattle.symbol.specs.declared.Loc.{Loc}
 use Rattle.symbol.proofs.PlacesBack.{same_place_self}
 use Rattle.operation.specs.declared.One.{One}
 use Rattle.operation.specs.declared.Two.{Two}
-use Rattle.definitions.specs.Tree.{Tree, variable}
 use Rattle.node.specs.declared.Node.{Node}
 use Rattle.node.specs.declared.Node.TheVariants.{Const, Var, Unary as UnaryNode, Binary as BinaryNode}
 use Rattle.node.specs.Nodes.{node_at, end_at, node_tree, Lies}

@@ -1,5 +1,6 @@
 // The mix of a tree as its marks show it: it picks the earlier calls that a call is compared with.
 #![tactic(auto)]
+
 ghost use Rattle.compare.specs.Comparison.{Comparable};
 ghost use Rattle.keys.specs.Keys.{MarksLow, SeenMix, ViewMix};
 
@@ -8,6 +9,7 @@ use node::Node;
 
 // Node i as its mark has it.
 #[cycle(mix_seen_mix_view)]
+#[tactic(auto, using(compare::proofs::MarksDecide::node_low, crate::proofs::Mixing::marked_mixed, crate::proofs::Mixing::unmarked_mixed))]
 pub fn mix_view(ws: &[u32], ms: &PerNode, i: u32) -> u64
     requires { Comparable ws.now i × MarksLow ms.now }
     ensures { ViewMix ws.now ms.now i result }
@@ -21,6 +23,7 @@ pub fn mix_view(ws: &[u32], ms: &PerNode, i: u32) -> u64
 
 // And without its mark.
 #[cycle(mix_seen_mix_view)]
+#[tactic(auto, using(compare::proofs::MarksDecide::node_low))]
 pub fn mix_seen(ws: &[u32], ms: &PerNode, i: u32) -> u64
     requires { Comparable ws.now i × MarksLow ms.now }
     ensures { SeenMix ws.now ms.now i result }
