@@ -1,5 +1,6 @@
 // Calls: an earlier one that is the same is sought, and a new one gets a row and a temporary.
 #![tactic(auto)]
+
 ghost use Rattle.std.specs.Prelude.{◌≡◌, [], ◌∷◌, ◌+◌, ◌<◌, ◌≤◌};
 ghost use Rattle.limits.specs.Limits.{row_limit, temporary_limit};
 ghost use Rattle.statement.specs.Rows.{key_end, RoomFor, row_at, rows_from};
@@ -41,6 +42,7 @@ fn key_of(m: u64) -> u32
 }
 
 // 1 + the row's temporary if it makes the same call as node i, else 0.
+#[tactic(auto, using(crate::proofs::OneRow::unmade_misses))]
 fn hits(ws: &[u32], ms: &PerNode, i: u32, row: Row) -> u32
     requires { CallSought ws.now i (row ∷ []) }
     ensures { CallFound ws.now ms.now i (row ∷ []) result }
@@ -82,6 +84,7 @@ fn or_else(m: u32, later: u32) -> u32
 }
 
 // 1 + the temporary of the first of count rows that makes the same call as node i, or 0: by the links of its chain, from its last row.
+#[tactic(auto, using(crate::proofs::Search::search_starts, crate::proofs::Search::chain_within, crate::proofs::Search::chain_linked, crate::proofs::Search::chain_falls, crate::proofs::Search::chain_next))]
 fn seek(ws: &[u32], ms: &PerNode, rs: &[u32], i: u32, last: u32, key: u32, count: u32) -> u32
     requires { SeekReady ws.now ms.now rs.now i last key count × CallSought ws.now i (rows_from rs.now 0 count)
         × RoomFor rs.now count }
@@ -116,6 +119,7 @@ fn new_call(rs: &mut [u32], i: u32, s: State, link: u32, key: u32) -> Trimmed
 }
 
 // The call of node i, whose arguments are trimmed: with sharing on an earlier call's temporary; else, or where there is none, a new one.
+#[tactic(auto, using(crate::proofs::Search::ready_comparable, crate::proofs::Search::chain_low))]
 pub fn break_call(
     ws: &[u32],
     i: u32,
