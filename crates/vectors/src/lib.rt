@@ -1,5 +1,6 @@
 // The recorded vectors as text: what stands where, and the place after it.
 #![tactic(auto)]
+
 ghost use Rattle.std.specs.Prelude.{◌≡◌, ◌+◌, ◌*◌, ◌≤◌, ◌<◌, true, false, length, take, drop};
 ghost use Rattle.std.proofs.lemmas.List.Edits.{sets};
 ghost use Rattle.vectors.specs.Vectors.{stands_at, place_after, end_line, line_length, end_length, comments_length};
@@ -15,6 +16,7 @@ pub struct Found {
 }
 
 // Whether the bytes s stand at a place of the vectors.
+#[tactic(auto, using(crate::proofs::Standing::stands_short, crate::proofs::Standing::stands_not, crate::proofs::Standing::stands_next, crate::proofs::Standing::stands_whole))]
 fn has(all: &[u8], at: usize, s: &[u8]) -> bool
     requires { at ≤ length all.now }
     ensures { (result ≡ stands_at all.now at s.now)
@@ -53,6 +55,7 @@ pub fn past(all: &[u8], at: usize, s: &[u8]) -> usize
 }
 
 // The place after the line that begins at a place.
+#[tactic(auto, using(crate::proofs::Lines::line_ends, crate::proofs::Lines::line_goes_on, crate::proofs::Lines::no_line))]
 fn next_line(all: &[u8], at: usize) -> usize
     requires { at < length all.now }
     ensures { (result ≡ at + line_length (drop at all.now)) × (at < result) × (result ≤ length all.now) }
@@ -68,6 +71,7 @@ fn next_line(all: &[u8], at: usize) -> usize
 }
 
 // The place after the next line `end`.
+#[tactic(auto, using(crate::proofs::Lines::line_is_end, crate::proofs::Lines::line_passed, crate::proofs::Lines::no_end))]
 pub fn past_end(all: &[u8], at: usize) -> usize
     requires { at < length all.now }
     ensures { (result ≡ at + end_length false (drop at all.now)) × (at < result) × (result ≤ length all.now) }
@@ -84,6 +88,7 @@ pub fn past_end(all: &[u8], at: usize) -> usize
 }
 
 // The place after the comment lines at a place.
+#[tactic(auto, using(crate::proofs::Lines::comment_passed, crate::proofs::Lines::no_comment, crate::proofs::Lines::comments_end))]
 pub fn past_comments(all: &[u8], at: usize) -> usize
     requires { at ≤ length all.now }
     ensures { (result ≡ at + comments_length false (drop at all.now))
@@ -111,6 +116,7 @@ fn digit(b: u8) -> u8
 }
 
 // The byte written in two hexadecimal digits at a place, and 256 where none is.
+#[tactic(auto, using(crate::proofs::Written::byte_short, crate::proofs::Written::byte_no_high, crate::proofs::Written::byte_no_low, crate::proofs::Written::byte_both))]
 fn byte_at(all: &[u8], at: usize) -> u16
     requires { at ≤ length all.now }
     ensures { (result ≡ byte_of (drop at all.now)) × (result < 256 → at + 2 ≤ length all.now) }
@@ -130,6 +136,7 @@ fn byte_at(all: &[u8], at: usize) -> u16
 }
 
 // The bytes written at a place, and how many there are.
+#[tactic(auto, using(crate::proofs::Written::reads_none, crate::proofs::Written::reads_full))]
 pub fn read_bytes(all: &[u8], at: usize, file: &mut [u8]) -> Found
     requires { at ≤ length all.now }
     ensures n_value { (result.n ≡ length (bytes_at all.now at file.old)) × (result.at ≡ at + 2 * result.n)
@@ -152,6 +159,7 @@ pub fn read_bytes(all: &[u8], at: usize, file: &mut [u8]) -> Found
 }
 
 // The number written in decimal at a place; where it is over 16,384, not every digit is read.
+#[tactic(auto, using(crate::proofs::Written::counts_ended))]
 pub fn read_number(all: &[u8], at: usize) -> Found
     requires { at ≤ length all.now }
     ensures { (result.n ≡ number_from 0 (drop at all.now))
