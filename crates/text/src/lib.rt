@@ -1,5 +1,6 @@
 // The printed text, a line at a time, and that of a whole answer.
 #![tactic(auto)]
+
 ghost use Rattle.std.specs.Prelude.{◌≡◌, [], ◌∷◌, ◌++◌, ◌+◌, ◌*◌, ◌≤◌, ◌<◌, length};
 ghost use Rattle.limits.specs.Limits.{line_limit};
 ghost use Rattle.symbol.specs.Place.{word_place};
