@@ -4,7 +4,8 @@ use Rattle.text.proofs.answer_text.Goals as goal
 
 pub returns-then-number-ne0 : goal.returns-then-number-ne0
 returns-then-number-ne0 c =
-    writes_refused c.args.number c.args.ops c.args.temps c.args.out.now c.if-number-ne0.true c.refused_text.ensures c.put_line.ensures
+    writes_refused c.args.number c.args.ops c.args.temps c.args.out.now c.if-number-ne0.true
+    c.refused_text.ensures c.put_line.ensures
 
 pub returns : goal.returns
 returns c =

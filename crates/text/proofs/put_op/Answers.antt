@@ -10,62 +10,72 @@ use Rattle.text.proofs.put_op.Goals as goal
 pub returns-in-1 : goal.returns-in-1
 unfolding bytes op_text words_op
 returns-in-1 c =
-    rw c.in-1.is (adds_within 58 (omega arith) (adds_then (adds_then c.put.ensures c.put_register.ensures) c.put_constant.ensures))
+    let text = adds_then (adds_then c.put.ensures c.put_register.ensures) c.put_constant.ensures in
+    rw c.in-1.is (adds_within 58 (omega arith) text)
 
 -- load
 pub returns-in-2 : goal.returns-in-2
 unfolding bytes op_text words_op
 returns-in-2 c =
-    rw c.in-2.is (adds_within 58 (omega arith) (adds_then (adds_then c.put-in-2.ensures c.put_register-in-2.ensures) c.put_place.ensures))
+    let text = adds_then (adds_then c.put-in-2.ensures c.put_register-in-2.ensures) c.put_place.ensures in
+    rw c.in-2.is (adds_within 58 (omega arith) text)
 
 -- save
 pub returns-in-3 : goal.returns-in-3
 unfolding bytes op_text words_op
 returns-in-3 c =
-    rw c.in-3.is (adds_within 58 (omega arith) (adds_then (adds_then c.put-in-3.ensures c.put_register-in-3.ensures) c.put_place-in-3.ensures))
+    let text = adds_then (adds_then c.put-in-3.ensures c.put_register-in-3.ensures) c.put_place-in-3.ensures in
+    rw c.in-3.is (adds_within 58 (omega arith) text)
 
 -- move
 pub returns-in-4 : goal.returns-in-4
 unfolding bytes op_text words_op
 returns-in-4 c =
-    rw c.in-4.is (adds_within 58 (omega arith) (adds_registers c.args.d c.args.s1 c.put-in-4.ensures c.put_registers.ensures))
+    let text = adds_registers c.args.d c.args.s1 c.put-in-4.ensures c.put_registers.ensures in
+    rw c.in-4.is (adds_within 58 (omega arith) text)
 
 -- swap
 pub returns-in-5 : goal.returns-in-5
 unfolding bytes op_text words_op
 returns-in-5 c =
-    rw c.in-5.is (adds_within 58 (omega arith) (adds_registers c.args.d c.args.s1 c.put-in-5.ensures c.put_registers-in-5.ensures))
+    let text = adds_registers c.args.d c.args.s1 c.put-in-5.ensures c.put_registers-in-5.ensures in
+    rw c.in-5.is (adds_within 58 (omega arith) text)
 
 -- uni
 pub returns-in-6 : goal.returns-in-6
 unfolding bytes op_text words_op
 returns-in-6 c =
-    rw c.in-6.is (adds_within 58 (omega arith) (adds_registers c.args.d c.args.s1 (adds_then c.put-in-6.ensures c.put_unary.ensures) c.put_registers-in-6.ensures))
+    let text = adds_registers c.args.d c.args.s1 (adds_then c.put-in-6.ensures c.put_unary.ensures) c.put_registers-in-6.ensures in
+    rw c.in-6.is (adds_within 58 (omega arith) text)
 
 -- bi
 pub returns-in-7 : goal.returns-in-7
 unfolding bytes op_text words_op
 returns-in-7 c =
-    rw c.in-7.is (adds_within 58 (omega arith) (adds_then c.put_math.ensures c.put_register-in-7.ensures))
+    let text = adds_then c.put_math.ensures c.put_register-in-7.ensures in
+    rw c.in-7.is (adds_within 58 (omega arith) text)
 
 -- ifelse
 pub returns-in-8 : goal.returns-in-8
 unfolding bytes op_text words_op
 returns-in-8 c =
     let first = adds_registers c.args.d c.args.s1 c.put-in-8.ensures c.put_registers-in-8.ensures in
-    rw c.in-8.is (adds_within 58 (omega arith) (adds_then (adds_then first c.put_register-in-8.ensures) c.put_place-in-8.ensures))
+    let text = adds_then (adds_then first c.put_register-in-8.ensures) c.put_place-in-8.ensures in
+    rw c.in-8.is (adds_within 58 (omega arith) text)
 
 -- loadmath
 pub returns-in-9 : goal.returns-in-9
 unfolding bytes op_text words_op
 returns-in-9 c =
-    rw c.in-9.is (adds_within 58 (omega arith) (adds_then c.put_math-in-9.ensures c.put_place-in-9.ensures))
+    let text = adds_then c.put_math-in-9.ensures c.put_place-in-9.ensures in
+    rw c.in-9.is (adds_within 58 (omega arith) text)
 
 -- constmath
 pub returns-in-10 : goal.returns-in-10
 unfolding bytes op_text words_op
 returns-in-10 c =
-    rw c.in-10.is (adds_within 58 (omega arith) (adds_then c.put_math-in-10.ensures c.put_constant-in-10.ensures))
+    let text = adds_then c.put_math-in-10.ensures c.put_constant-in-10.ensures in
+    rw c.in-10.is (adds_within 58 (omega arith) text)
 
 -- call
 pub returns-in-11 : goal.returns-in-11
