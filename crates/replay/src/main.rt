@@ -1,5 +1,6 @@
 // Replays the recorded vectors: compiles each sheet and compares the answer with what is recorded.
 #![tactic(auto)]
+
 ghost use Rattle.std.specs.Prelude.{◌≡◌, ◌*◌, ◌≤◌, length, drop};
 ghost use Rattle.limits.specs.Limits.{work_words};
 ghost use Rattle.definitions.specs.Answer.{answer};
@@ -19,6 +20,7 @@ struct Tally {
 }
 
 // Whether the words from a place on are zero.
+#[tactic(auto, using(crate::proofs::Zeros::zero_end, crate::proofs::Zeros::zero_not, crate::proofs::Zeros::zero_next))]
 fn zero_from(ws: &[u32], from: usize) -> bool
     ensures { result ≡ all_zero (drop from ws.now) }
 {

@@ -1,5 +1,6 @@
 // Reads a sheet from standard input and prints its list, or the number of its refusal.
 #![tactic(auto)]
+
 ghost use Rattle.std.specs.Prelude.{◌≡◌, ◌≤◌, length, take};
 ghost use Rattle.io.specs.Counts.{IsPrefixLen};
 ghost use Rattle.limits.specs.Limits.{work_words, text_limit};
@@ -10,6 +11,7 @@ use builder::Answer;
 use limits::{BYTES, TEXT, WORK};
 
 // Writes the text of the answer to a file at the start of a text, and answers its length.
+#[tactic(auto, using(text::proofs::Texts::parts_room, text::proofs::Texts::parts_written))]
 fn answered(file: &[u8], text: &mut [u8]) -> usize
     requires { text_limit ≤ length text.old }
     ensures text_after { take result text.new ≡ answer_text (answer file.now work_words work_words) }

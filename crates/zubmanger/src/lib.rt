@@ -1,5 +1,6 @@
 // The call for C and Rust: the answer as three numbers.
 #![tactic(auto)]
+
 ghost use Rattle.std.specs.Prelude.{◌≡◌};
 ghost use Rattle.builder.specs.Compiled.{number_of, ops_of, temps_of};
 ghost use Rattle.zubmanger.specs.Call.{Called};
