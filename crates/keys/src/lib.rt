@@ -9,7 +9,7 @@ use node::Node;
 
 // Node i as its mark has it.
 #[cycle(mix_seen_mix_view)]
-#[tactic(auto, using(compare::proofs::MarksDecide::node_low, crate::proofs::Mixing::marked_mixed, crate::proofs::Mixing::unmarked_mixed))]
+#[tactic(auto, using(compare::proofs::MarksDecide::node_low, crate::proofs::Mixing::marked_mixed))]
 pub fn mix_view(ws: &[u32], ms: &PerNode, i: u32) -> u64
     requires { Comparable ws.now i × MarksLow ms.now }
     ensures { ViewMix ws.now ms.now i result }
