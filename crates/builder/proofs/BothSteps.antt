@@ -7,7 +7,6 @@ use Rattle.statement.specs.declared.State.{State}
 use Rattle.builder.specs.declared.Answer.{Answer}
 use Rattle.builder.specs.declared.Answer.TheVariants.{Refused}
 use Rattle.builder.specs.declared.Step.{Step}
-use Rattle.builder.specs.declared.Step.TheVariants as Step
 use Rattle.builder.specs.Steps.{Listable, TrimsTo, ListsTo, CompilesTo}
 
 module _ (h : Header) (ws rows : List ℕ) (n : ℕ) (ms es rs : List ℕ) {t : Step} (trims : TrimsTo h ws rows n ms es rs t) where
