@@ -1,0 +1,5 @@
+pub mod Codes
+pub mod Tidy
+pub mod Arithmetic
+pub mod Units
+pub mod Rows
