@@ -1,0 +1,2 @@
+pub mod HeadsDecide
+pub mod SidesDecide
