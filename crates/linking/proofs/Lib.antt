@@ -1,0 +1,4 @@
+pub mod Adding
+pub mod Rows
+pub mod Mixes
+pub mod Turns

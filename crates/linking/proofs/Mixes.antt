@@ -1,0 +1,86 @@
+-- The mix of a row from those of its sides, and the mixes as rows are added. Assumes nothing.
+use mathlib.Core.Path.{◌≡◌, refl, sym, ap, ap₂, ◌∙◌}
+use mathlib.Core.List.{List}
+use Prim.Native.Nat.{ℕ, ◌+◌, ◌<◌, min}
+use native.Mathlib.Omega.{arith}
+use lib.ListN.{length, get_or, set, length-set}
+use lib.Seq.{get_or-set_same, get_or-set_other}
+use Rattle.definitions.specs.Tree.{Tree}
+use Rattle.node.specs.declared.Node.{Node}
+use Rattle.node.specs.declared.Node.TheVariants.{Const, Var, Unary, Binary}
+use Rattle.node.specs.Nodes.{node_at, end_at}
+use Rattle.node.proofs.Nodes.{equal_or}
+use Rattle.mix.specs.Mix.{constant_mix, variable_mix, one_mix, two_mix, mix_by, mix}
+use Rattle.links.specs.Links.{link_tree, linked, Inside, Sides, Row}
+use Rattle.links.proofs.Links.{sides_map, row_tree, row_rises}
+use Rattle.alike.specs.Alike.{Pair, Mixed}
+use Rattle.alike.proofs.HeadsDecide.{mixed_up}
+use Rattle.rules.specs.Moves.{From}
+
+-- ---- of one row
+
+-- a node's mix, from those of its sides
+abbrev pub link_mix : (ℕ → ℕ) → (left : ℕ) → Node → ℕ
+link_mix f left (Const k) = constant_mix k
+link_mix f left (Var p) = variable_mix p
+link_mix f left (Unary o) = one_mix o (f left)
+link_mix f left (Binary o right) = two_mix o (f left) (f right)
+
+sides_mix : (f : ℕ → ℕ) (T : ℕ → Tree) (left : ℕ) (m : Node) → Sides (λ j. f j ≡ mix (T j)) left m
+    → link_mix f left m ≡ mix (link_tree T left m)
+unfolding mix_by
+sides_mix f T left (Const k) h = refl
+sides_mix f T left (Var p) h = refl
+sides_mix f T left (Unary o) h = ap (one_mix o) h
+sides_mix f T left (Binary o right) h = ap₂ (two_mix o) h.0 h.1
+
+-- row j has its mix
+abbrev pub MixAt : (rows mx : List ℕ) (j : ℕ) → Type 0
+MixAt rows mx j = (j < length mx) × (get_or mx j 0 ≡ mix (linked rows j))
+
+-- row i was unpacked as x, with the left side l, and told to be z
+module _ {rows mx : List ℕ} {i : ℕ} (row : Row rows i) (mixed : Mixed rows mx (i + 1)) {x z : Node} {l : ℕ}
+    (unpacked : x ≡ node_at rows i) (left : l ≡ end_at rows i) (told : x ≡ z) where
+  pub sides_mixed : Sides (MixAt rows mx) l z
+  sides_mixed =
+      rw (left, ← told, unpacked)
+      (sides_map {P = λ j. (i < j) × Inside rows j} {Q = MixAt rows mx}
+      (λ j h. (omega (arith, mixed.wide, h.1), mixed.mixes j (omega (arith, h.0)) h.1))
+      (end_at rows i) (node_at rows i) (row_rises row))
+
+  tree_is : linked rows i ≡ link_tree (linked rows) l z
+  tree_is = rw (left, ← told, unpacked) (row_tree row)
+
+  pub row_mixed : {r : ℕ} → r ≡ link_mix (λ j. get_or mx j 0) l z → r ≡ mix (linked rows i)
+  row_mixed e =
+      let sided = sides_map {P = MixAt rows mx} (λ j h. h.1) l z sides_mixed in
+      e ∙ sides_mix (λ j. get_or mx j 0) (linked rows) l z sided ∙ sym (ap mix tree_is)
+
+-- ---- of all rows
+
+-- two rows from lo on, with the mixes that the rules ask for
+pub mixes_asked : {rows mx : List ℕ} {lo l r : ℕ} → From rows lo l → From rows lo r → Mixed rows mx lo
+    → Pair rows l r × Mixed rows mx (min l r)
+mixes_asked {lo = lo} {l} {r} left right mixed =
+    (record { first = left.row; second = right.row }, mixed_up lo (min l r) (omega (arith, left.from, right.from)) mixed)
+
+-- a row before them changed no tree
+pub mixed_others : {rows rows' mx : List ℕ} {i : ℕ} → length rows' ≡ length rows
+    → ((j : ℕ) → i < j → Inside rows j → linked rows' j ≡ linked rows j)
+    → Mixed rows mx (i + 1) → Mixed rows' mx (i + 1)
+mixed_others {rows} {i = i} whole others mixed =
+    record {
+      wide = omega (arith, whole, mixed.wide);
+      mixes = λ j l h. let was_inside : Inside rows j = omega (arith, whole) in
+          mixed.mixes j l was_inside ∙ ap mix (sym (others j (omega arith) was_inside));
+    }
+
+-- its own mix is stored
+pub mixed_more : {rows mx : List ℕ} {i r : ℕ} → Mixed rows mx (i + 1) → i < length mx → r ≡ mix (linked rows i)
+    → Mixed rows (set mx i r) i
+mixed_more {rows} {mx} {i} {r} mixed inside e =
+    record {
+      wide = omega (arith, length-set mx i r, mixed.wide);
+      mixes = λ j l h. equal_or j i (λ q. rw q (get_or-set_same mx i r 0 inside ∙ e))
+          (λ q. get_or-set_other mx i j r 0 q ∙ mixed.mixes j (omega (arith, q)) h);
+    }
