@@ -1,0 +1,3 @@
+pub mod RootTrees
+pub mod Relaying
+pub mod Standing
