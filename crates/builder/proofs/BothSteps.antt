@@ -27,3 +27,6 @@ module _ (h : Header) (ws rows : List ℕ) (n : ℕ) (ms es rs : List ℕ) {t : 
   step_refused {k} is out out' file same read =
       let refused : TrimsTo h ws rows n ms es rs (Step.Refused k) = rw is at trims in
       rw (refused file same read) refl
+
+-- the second step after the first, or its refusal
+pub ruleset second_step = (step_listable, steps_compile, step_refused)

@@ -119,3 +119,6 @@ module _ (h : Header) (ws rows : List ℕ) (n : ℕ) (ms er : List ℕ) (e : Sta
         (ap (λ (t : Trimming). got t.statements t.next) (trimmed_is file is q ∙ done.0))),
   )
   sheet_trims (Refused k) x = λ file is q. rw (q.read, wide_was file is q (x.1 (temporary file) q.fresh), x.0) refl
+
+-- what the first step asks for with sharing on, and gives
+pub ruleset shared_step = (zeros_room, zeros_short, room_left, sheet_trims)

@@ -281,3 +281,6 @@ module _ {ws ms rs : List ℕ} {n i : ℕ} {s : State} (ready : CallReady ws ms 
           made (get_or hs at 0) key x (λ temporary f. rw q at (h.is temporary (ready_fresh f)))
           (length-set hs at (s.count + 1))
           (λ on. rw (x.put, e, k) (keyed_called i m s.next ready.room ready.few ours keyed))
+
+-- a search along a chain
+pub ruleset along_chain = (search_starts, chain_within, chain_linked, chain_falls, chain_next)

@@ -84,7 +84,7 @@ fn or_else(m: u32, later: u32) -> u32
 }
 
 // 1 + the temporary of the first of count rows that makes the same call as node i, or 0: by the links of its chain, from its last row.
-#[tactic(auto, using(crate::proofs::Search::search_starts, crate::proofs::Search::chain_within, crate::proofs::Search::chain_linked, crate::proofs::Search::chain_falls, crate::proofs::Search::chain_next))]
+#[tactic(auto, using(crate::proofs::Search::along_chain))]
 fn seek(ws: &[u32], ms: &PerNode, rs: &[u32], i: u32, last: u32, key: u32, count: u32) -> u32
     requires { SeekReady ws.now ms.now rs.now i last key count × CallSought ws.now i (rows_from rs.now 0 count)
         × RoomFor rs.now count }

@@ -92,3 +92,6 @@ module _ (ws ms : List ℕ) (a b : ℕ) (trees : TwoTrees ws a b) where
   pub seen_decides : {r : Bool} → get_or ms a 0 ≡ 0 → get_or ms b 0 ≡ 0 → SameSeen ws ms a b r → SameView ws ms a b r
   seen_decides y z h temporary n f ends-a ends-b =
       h temporary n f ends-a ends-b ∙ sym (ap₂ same (view_unmarked temporary ws ms a y) (view_unmarked temporary ws ms b z))
+
+-- a mark decides
+pub ruleset mark_decides = (node_low, first_mark_decides, second_mark_decides)

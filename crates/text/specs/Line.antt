@@ -46,7 +46,8 @@ refused_text k = bytes "refused " ++ decimal k ++ newline
 -- the line of the six words from a place on; that of operation i of a list's words, and those of the first n
 abbrev pub line_from : List ℕ → (at : ℕ) → List ℕ
 line_from ws at =
-    line_text (get_or ws at 0) (get_or ws (at + 1) 0) (get_or ws (at + 2) 0) (get_or ws (at + 3) 0) (get_or ws (at + 4) 0) (get_or ws (at + 5) 0)
+    line_text (get_or ws at 0) (get_or ws (at + 1) 0) (get_or ws (at + 2) 0) (get_or ws (at + 3) 0)
+    (get_or ws (at + 4) 0) (get_or ws (at + 5) 0)
 
 abbrev pub line_at : List ℕ → ℕ → List ℕ
 line_at ws i = line_from ws (6 * i)

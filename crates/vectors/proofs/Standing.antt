@@ -45,3 +45,6 @@ module _ (all s : List ℕ) (at : ℕ) where
   pub stands_whole : (i : ℕ) → length s ≤ i → true ≡ begins (drop i s) (drop (at + i) all)
   unfolding begins
   stands_whole i h = rw (drop_of_length-le s h)
+
+-- what a text that stands at a place is, as far as it was looked at
+pub ruleset standing = (stands_short, stands_not, stands_next, stands_whole)

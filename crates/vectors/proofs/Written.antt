@@ -158,3 +158,6 @@ module _ (all : List ℕ) (at here n : ℕ) (so_far : NumberSoFar all at here n)
   counts_ended h =
       let old = rw (drop_of_length-le all h) at so_far in
       (old.0, omega (arith, old.1))
+
+-- a byte as it is written, or why none is
+pub ruleset byte_written = (byte_short, byte_no_high, byte_no_low, byte_both)

@@ -16,7 +16,7 @@ pub struct Found {
 }
 
 // Whether the bytes s stand at a place of the vectors.
-#[tactic(auto, using(crate::proofs::Standing::stands_short, crate::proofs::Standing::stands_not, crate::proofs::Standing::stands_next, crate::proofs::Standing::stands_whole))]
+#[tactic(auto, using(crate::proofs::Standing::standing))]
 fn has(all: &[u8], at: usize, s: &[u8]) -> bool
     requires { at ≤ length all.now }
     ensures { (result ≡ stands_at all.now at s.now)
@@ -116,7 +116,7 @@ fn digit(b: u8) -> u8
 }
 
 // The byte written in two hexadecimal digits at a place, and 256 where none is.
-#[tactic(auto, using(crate::proofs::Written::byte_short, crate::proofs::Written::byte_no_high, crate::proofs::Written::byte_no_low, crate::proofs::Written::byte_both))]
+#[tactic(auto, using(crate::proofs::Written::byte_written))]
 fn byte_at(all: &[u8], at: usize) -> u16
     requires { at ≤ length all.now }
     ensures { (result ≡ byte_of (drop at all.now)) × (result < 256 → at + 2 ≤ length all.now) }
