@@ -7,6 +7,7 @@ use lib.Dec.{eqb, leb}
 use lib.Count.{count_trailing_zeros}
 use Rattle.symbol.specs.Place.{same_place}
 use Rattle.operation.specs.Codes.{commutes, fuses_right, fuses_left, unary_form, binary_form}
+use Rattle.operation.specs.Numbers.{unary_number, unary_code, binary_number, binary_code}
 use Rattle.operation.specs.Names.{bytes}
 use Rattle.definitions.specs.Tree.{ershov, weight, depth}
 use Rattle.definitions.specs.Same.{same, among}
@@ -36,7 +37,8 @@ same_numbers (x ∷ xs) (y ∷ ys) = eqb x y && same_numbers xs ys
 
 -- the answer to a sheet in hexadecimal, given the words of work and output lent
 unfoldable pub answer_to : (sheet : String) (work room : ℕ) → Answer
-unfolding from_digits bytes same_place commutes fuses_right fuses_left unary_form binary_form ershov weight depth same among
+unfolding from_digits bytes same_place unary_number unary_code binary_number binary_code commutes fuses_right fuses_left
+    unary_form binary_form ershov weight depth same among
     sheet_of file_fits header_fits pairs_fit pairs pairs_from in_order statements_at statement_at tree_at place_at
     texts_of walk_all walk note eliminate rewrite find holds trim_all trim seek too_wide op_words list_words
     signed_of count_trailing_zeros digits digits_in higher gather_ops square_ops positive_ops power_ops

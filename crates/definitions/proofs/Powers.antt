@@ -8,8 +8,8 @@ use mathlib.Core.List.{List, [], ◌∷◌}
 use native.Mathlib.Omega.{arith}
 use lib.Dec.{eqb}
 use lib.IntN.{ℤ, pos, negsuc}
+use Rattle.std.specs.Prelude.{Some, None}
 use Rattle.operation.specs.Codes.{recip_code, unary_form, binary_form}
-use Rattle.operation.specs.declared.Modulus.TheVariants.{Without, Under}
 use Rattle.definitions.specs.Operations.{Op, Temp, Ret}
 use Rattle.definitions.specs.Power.{closing, higher, digit_ops, gather_ops, square_ops, positive_ops}
 use Rattle.definitions.specs.Power.{gathered, squared, positive_value}
@@ -19,8 +19,8 @@ use Rattle.definitions.specs.Run.{State, update, set_register, operate, run_ops}
 use Rattle.definitions.proofs.Registers.{update_same, update_other, beyond_differs, Lands, run_append}
 
 -- registers that may be written besides a destination: none; Temp; Temp and Ret
-abbrev pub None : ℕ → Type 0
-None r = ⊥
+abbrev pub NoOther : ℕ → Type 0
+NoOther r = ⊥
 
 abbrev pub InTemp : ℕ → Type 0
 InTemp r = r ≡ Temp
@@ -183,12 +183,12 @@ module _ (m : Meaning) where
           rw run_append
           (rw (gather.has, start.has, update_itself z.registers d s) at (then_gathered start (then_gathered gather close)))
 
-  plain_multiplies : (e : ℕ) → Multiplies None (λ z. Unit {0}) e (product_ops Without) (times_value m)
+  plain_multiplies : (e : ℕ) → Multiplies NoOther (λ z. Unit {0}) e (product_ops None) (times_value m)
   unfolding run_ops operate binary_value binary_form
-  plain_multiplies e = record { puts = λ s1 s2 z p. set_puts None e _ z; keeps = λ s1 s2 z p. tt }
+  plain_multiplies e = record { puts = λ s1 s2 z p. set_puts NoOther e _ z; keeps = λ s1 s2 z p. tt }
 
   modulo_multiplies : (e r : ℕ) (y : m.Value) → e ≢ Ret → r ≢ Ret → r ≢ e →
-      Multiplies (λ q. q ≡ Ret) (λ z. z.registers r ≡ y) e (product_ops (Under r)) (times_mod_value m y)
+      Multiplies (λ q. q ≡ Ret) (λ z. z.registers r ≡ y) e (product_ops (Some r)) (times_mod_value m y)
   unfolding run_ops operate unary_value binary_value unary_form binary_form
   modulo_multiplies e r y n₁ n₂ n₃ =
       record {
@@ -202,15 +202,15 @@ module _ (m : Meaning) where
       }
 
   whole_runs : (size d s : ℕ) → d ≢ Temp → (z : State m.Value) →
-      Puts InTemp d (positive_value (times_value m) size (z.registers s)) z (run_ops m (positive_ops (product_ops Without) size d s) z)
+      Puts InTemp d (positive_value (times_value m) size (z.registers s)) z (run_ops m (positive_ops (product_ops None) size d s) z)
   whole_runs size d s n z =
-      let k = positive_runs None (λ z. Unit {0}) d (product_ops Without) (times_value m) n (λ w. w) (λ w. w) (plain_multiplies d)
+      let k = positive_runs NoOther (λ z. Unit {0}) d (product_ops None) (times_value m) n (λ w. w) (λ w. w) (plain_multiplies d)
       (plain_multiplies Temp) (λ v z p. tt) size s z tt in
       record { memory_kept = k.memory_kept; others_kept = λ r a b. k.others_kept r a b (λ w. w); put = k.has }
 
   modulo_runs : (size d s r : ℕ) → d < Temp → r < Temp → r ≢ d → (z : State m.Value) →
       Puts InTempOrRet d (positive_value (times_mod_value m (z.registers r)) size (z.registers s)) z
-      (run_ops m (positive_ops (product_ops (Under r)) size d s) z)
+      (run_ops m (positive_ops (product_ops (Some r)) size d s) z)
   modulo_runs size d s r h₁ h₂ n z =
       let d≢Temp : d ≢ Temp = omega arith in
       let d≢Ret : d ≢ Ret = omega arith in
@@ -218,7 +218,7 @@ module _ (m : Meaning) where
       let r≢Ret : r ≢ Ret = omega arith in
       let r≢Temp : r ≢ Temp = omega arith in
       let y = z.registers r in
-      let k = positive_runs (λ q. q ≡ Ret) (λ z'. z'.registers r ≡ y) d (product_ops (Under r)) (times_mod_value m y)
+      let k = positive_runs (λ q. q ≡ Ret) (λ z'. z'.registers r ≡ y) d (product_ops (Some r)) (times_mod_value m y)
       d≢Temp d≢Ret t≢Ret (modulo_multiplies d r y d≢Ret r≢Ret n) (modulo_multiplies Temp r y t≢Ret r≢Ret r≢Temp)
       (λ v z' p. update_other _ _ _ _ n ∙ p) size s z refl in
       record {
@@ -229,7 +229,7 @@ module _ (m : Meaning) where
 
   -- a power's operations leave its value where its argument was
   pub power_runs : (stable : Bool) (p : ℤ) (d : ℕ) → d ≢ Temp → (z : State m.Value) →
-      Puts InTemp d (power_value m (times_value m) stable p (z.registers d)) z (run_ops m (power_ops Without stable p d d) z)
+      Puts InTemp d (power_value m (times_value m) stable p (z.registers d)) z (run_ops m (power_ops None stable p d d) z)
   unfolding run_ops operate power_ops power_value unary_value binary_value unary_form binary_form
   power_runs stable (pos zero) d n z = set_puts InTemp d _ z
   power_runs stable (pos (suc k)) d n z = whole_runs (suc k) d d n z
@@ -237,14 +237,14 @@ module _ (m : Meaning) where
       let first = set_puts InTemp d (m.unary_of recip_code (z.registers d)) z in
       rw first.put at (puts_then first (whole_runs (suc k) d d n (set_register z d (m.unary_of recip_code (z.registers d)))))
   power_runs false (negsuc k) d n z =
-      let z₁ = run_ops m (positive_ops (product_ops Without) (suc k) d d) z in
+      let z₁ = run_ops m (positive_ops (product_ops None) (suc k) d d) z in
       let power = whole_runs (suc k) d d n z in
       rw run_append (puts_as (ap (m.unary_of recip_code) power.put) (puts_then power (set_puts InTemp d _ z₁)))
 
   -- under a modulus, which stays in its register
   pub power_mod_runs : (p : ℤ) (d r : ℕ) → d < Temp → r < Temp → r ≢ d → (z : State m.Value) →
       Puts InTempOrRet d (power_value m (times_mod_value m (z.registers r)) false p (z.registers d)) z
-      (run_ops m (power_ops (Under r) false p d d) z)
+      (run_ops m (power_ops (Some r) false p d d) z)
   unfolding power_ops power_value
   power_mod_runs (pos zero) d r h₁ h₂ n z = puts_wider (λ q e. inl e) (power_runs false (pos zero) d (omega arith) z)
   power_mod_runs (pos (suc k)) d r h₁ h₂ n z = modulo_runs (suc k) d d r h₁ h₂ n z
@@ -252,10 +252,10 @@ module _ (m : Meaning) where
 
   -- as evaluation needs it: the argument, or the base, lies in the destination
   pub power_lands : (stable : Bool) (p : ℤ) (d : ℕ) → d < Temp → (z : State m.Value) →
-      Lands d 1 (power_value m (times_value m) stable p (z.registers d)) z (run_ops m (power_ops Without stable p d d) z)
+      Lands d 1 (power_value m (times_value m) stable p (z.registers d)) z (run_ops m (power_ops None stable p d d) z)
   power_lands stable p d h z = puts_lands (puts_wider (λ q e. inl e) (power_runs stable p d (omega arith) z))
 
   pub power_mod_lands : (p : ℤ) (d r : ℕ) → d < Temp → r < Temp → r ≢ d → (z : State m.Value) →
       Lands d 1 (power_value m (times_mod_value m (z.registers r)) false p (z.registers d)) z
-      (run_ops m (power_ops (Under r) false p d d) z)
+      (run_ops m (power_ops (Some r) false p d d) z)
   power_mod_lands p d r h k n z = puts_lands (power_mod_runs p d r h k n z)

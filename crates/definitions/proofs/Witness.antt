@@ -15,6 +15,8 @@ use Rattle.symbol.specs.declared.Loc.TheVariants.{Stack, Mem, Param}
 use Rattle.symbol.specs.Place.{kind_of, index_of}
 use Rattle.operation.specs.Codes.{plus_code, minus_code, times_code, divide_code, commutes}
 use Rattle.operation.specs.Names.{bytes}
+use Rattle.operation.specs.declared.UnaryCode.TheVariants.{Round, Floor}
+use Rattle.operation.specs.declared.BinaryCode.TheVariants.{Plus, Minus, Times, Divide}
 use Rattle.operation.specs.declared.One.TheVariants.{Unary, Function1}
 use Rattle.operation.specs.declared.Two.TheVariants.{Binary, Choice, Function2}
 use Rattle.definitions.specs.Tree.{Tree, constant, variable, one, two, reads}
@@ -86,13 +88,14 @@ file = from_digits (bytes
 -- the formula that stands in it twice, and its statements
 abbrev pub repeated : Tree
 repeated =
-    two (Binary 3) (two (Binary 1) (variable (Mem 0)) (variable (Mem 1))) (two (Binary 2) (variable (Mem 3)) (variable (Mem 2)))
+    two (Binary Times) (two (Binary Plus) (variable (Mem 0)) (variable (Mem 1))) (two (Binary Minus) (variable (Mem 3)) (variable (Mem 2)))
 
 unfoldable pub sheet : List Statement
 sheet =
     assign (Stack 0) repeated
     ∷ assign (Stack 1)
-    (two (Binary 2) (one (Unary 12) (two (Binary 4) (one (Function1 1) repeated) (constant 2))) (one (Unary 13) (variable (Mem 0))))
+    (two (Binary Minus) (one (Unary Round) (two (Binary Divide) (one (Function1 1) repeated) (constant 2)))
+    (one (Unary Floor) (variable (Mem 0))))
     ∷ assign (Mem 9) (two (Choice (Param 0)) (two (Function2 2) (variable (Stack 1)) (variable (Mem 0))) (variable (Stack 0)))
     ∷ []
 
