@@ -5,31 +5,12 @@ use mathlib.Core.Logic.{◌≢◌}
 use Prim.Native.Nat.{ℕ, zero, suc, ◌+◌, ◌-◌, ◌<◌, ◌≤◌}
 use native.Mathlib.Omega.{arith}
 use native.Mathlib.Nat.{add-zero, zero-add, suc-add, add-suc}
-use native.Mathlib.Numerals.{add-one}
 use lib.ListN.{length, get_or, set, take, drop, replicate}
-use lib.ListN.{length-drop, length-replicate, drop_of_length-le, take-append-drop, get_or-append}
-use lib.Seq.{sets, sets-eq, take_all, set_out, set_comm, take-suc-set, length-take-le, get_or-append-add, get_or-set_other}
+use borrow.Rule.Slice.PartMut.{put_mid}
+use lib.ListN.{length-set, length-drop, length-replicate, drop_of_length-le, take-append-drop, get_or-append}
+use lib.Seq.{drop-drop, sets, sets-eq, take_all, set_out, set_comm, length-take-le, get_or-append-add, get_or-set_other}
 
 module _ {A : Type 0} where
-  -- four stores in a row, and six, are one run
-  pub four_stored : (l : List A) (i : ℕ) (a b c d : A) {l₁ l₂ l₃ l₄ : List A}
-      → l₁ ≡ set l i a → l₂ ≡ set l₁ (i + 1) b → l₃ ≡ set l₂ (i + 2) c → l₄ ≡ set l₃ (i + 3) d
-      → l₄ ≡ sets l i (a ∷ b ∷ c ∷ d ∷ [])
-  four_stored l i a b c d e₁ e₂ e₃ e₄ =
-      let p : i + 1 ≡ suc i = omega arith in
-      let q : i + 2 ≡ suc (suc i) = omega arith in
-      let r : i + 3 ≡ suc (suc (suc i)) = omega arith in
-      rw (e₄, e₃, e₂, e₁, p, q, r)
-
-  pub six_stored : (l : List A) (i : ℕ) (a b c d e f : A) {l₁ l₂ l₃ l₄ l₅ l₆ : List A}
-      → l₁ ≡ set l i a → l₂ ≡ set l₁ (i + 1) b → l₃ ≡ set l₂ (i + 2) c
-      → l₄ ≡ set l₃ (i + 3) d → l₅ ≡ set l₄ (i + 4) e → l₆ ≡ set l₅ (i + 5) f
-      → l₆ ≡ sets l i (a ∷ b ∷ c ∷ d ∷ e ∷ f ∷ [])
-  six_stored l i a b c d e f e₁ e₂ e₃ e₄ e₅ e₆ =
-      let p : i + 4 ≡ suc (suc (suc (suc i))) = omega arith in
-      let q : i + 5 ≡ suc (suc (suc (suc (suc i)))) = omega arith in
-      rw (e₆, e₅, four_stored l i a b c d e₁ e₂ e₃ e₄, p, q)
-
   -- a store that lies apart from a run may come first
   set_below : (vs l : List A) (i j : ℕ) (x : A) → i < j → set (sets l j vs) i x ≡ sets (set l i x) j vs
   set_below [] l i j x h = refl
@@ -56,6 +37,24 @@ module _ {A : Type 0} where
   pub sets_out : (vs l : List A) (i : ℕ) → length l ≤ i → sets l i vs ≡ l
   sets_out [] l i h = refl
   sets_out (v ∷ vs) l i h = ap (λ (m : List A). sets m (suc i) vs) (set_out l i v h) ∙ sets_out vs l (suc i) (omega arith)
+
+  -- as much of a run as there is room for
+  sets_cut : (k : ℕ) (vs l : List A) (i : ℕ) → i + k ≡ length l → sets l i (take k vs) ≡ sets l i vs
+  sets_cut zero vs l i h = sym (sets_out vs l i (omega arith))
+  sets_cut (suc k) [] l i h = refl
+  sets_cut (suc k) (v ∷ vs) l i h = sets_cut k vs (set l i v) (suc i) (omega (arith, length-set {A = A}))
+
+  -- what a part is exchanged for is stored there, and so is a run that is cut where the list ends
+  pub part_stored : (l vs : List A) (a k : ℕ) {new : List A} → a + k ≤ length l → length new ≡ length (take k (drop a l))
+      → new ≡ vs → put_mid a k l new ≡ sets l a vs
+  part_stored l vs a k h n e =
+      let size : length vs ≡ k = rw (← e) (omega (arith, n, length-take-le k (drop a l), length-drop a l)) in
+      let rest : drop (a + length vs) l ≡ drop k (drop a l) = rw (size, drop-drop) in
+      rw (e, ← rest) (sym (sets-eq vs l a (omega arith) ∙ append_assoc (take a l) vs (drop (a + length vs) l)))
+
+  pub cut_stored : (l vs : List A) (a k : ℕ) {new : List A} → a + k ≡ length l → length new ≡ length (take k (drop a l))
+      → new ≡ take k vs → put_mid a k l new ≡ sets l a vs
+  cut_stored l vs a k h n e = part_stored l (take k vs) a k (omega arith) n e ∙ sets_cut k vs l a h
 
   -- what stands in a run, and before it
   pub get_d_sets : (vs l : List A) (i k : ℕ) (d : A) → i + length vs ≤ length l → k < length vs
@@ -98,15 +97,7 @@ module _ {A : Type 0} where
       ∙ ap (λ (k : ℕ). sets (take a xs ++ rest) k vs) (add-zero (length (take a xs)) ∙ length-take-le a xs h)
       ∙ ap (λ (l : List A). sets l a vs) (take-append-drop a xs)
 
-  -- a run of one value
-  replicate_more : (n : ℕ) (a : A) → replicate n a ++ (a ∷ []) ≡ replicate (suc n) a
-  replicate_more zero a = refl
-  replicate_more (suc n) a = ap (λ (l : List A). a ∷ l) (replicate_more n a)
-
-  pub take_store : (l : List A) (i : ℕ) (a : A) → i < length l → take i l ≡ replicate i a
-      → take (i + 1) (set l i a) ≡ replicate (i + 1) a
-  take_store l i a h e = rw (add-one, take-suc-set l i a h, e) (replicate_more i a)
-
+  -- the rest of a run of one value
   drop_replicate : (k n : ℕ) (a : A) → drop k (replicate n a) ≡ replicate (n - k) a
   drop_replicate zero n a = let e : n - 0 ≡ n = omega arith in rw e
   drop_replicate (suc k) zero a = let e : zero - suc k ≡ zero = omega arith in ap (λ (m : ℕ). replicate m a) (sym e)
