@@ -1,12 +1,13 @@
 -- Codes and their numbers: a code's number gives it back, and one that no code has gives the first. Assumes nothing.
-use Prim.Native.Nat.{ℕ, ◌-◌, ◌<◌}
+use Prim.Native.Nat.{ℕ, ◌-◌, ◌<◌, ◌≤◌}
 use native.Mathlib.Omega.{arith}
-use mathlib.Core.Bool.{Bool, true, false, ◌&&◌}
+use mathlib.Core.Bool.{false, ◌&&◌}
 use mathlib.Core.List.{List}
+use mathlib.Core.Logic.{◌⊎◌, ⊎_elim}
 use mathlib.Core.Path.{◌≡◌, refl, sym, ap, ◌∙◌}
 use lib.Dec.{leb}
 use lib.ListN.{length, get_or, get_or-eq_default}
-use borrow.Author.Tests.{leb-false}
+use Rattle.std.proofs.lemmas.Bool.Decides.{nat_tests}
 use Rattle.operation.specs.declared.UnaryCode.{UnaryCode}
 use Rattle.operation.specs.declared.UnaryCode.TheVariants.{Neg}
 use Rattle.operation.specs.declared.BinaryCode.{BinaryCode}
@@ -17,12 +18,9 @@ use Rattle.operation.specs.Numbers.{unary_number, unary_codes, unary_code, binar
 -- outside of a list that counts from 1 stands its first
 no_code : {A : Type 0} (d : A) (n : ℕ) (cs : List A) → get_or cs 0 d ≡ d → leb 1 n && leb n (length cs) ≡ false
     → get_or cs (n - 1) d ≡ d
-no_code {A} d n cs first e = go (leb 1 n) refl (leb n (length cs)) refl e
-  where
-    go : (a : Bool) → leb 1 n ≡ a → (b : Bool) → leb n (length cs) ≡ b → a && b ≡ false → get_or cs (n - 1) d ≡ d
-    go true p true q e = cc
-    go true p false q e = get_or-eq_default cs d (omega (arith, leb-false n (length cs) q))
-    go false p b q e = let z : n - 1 ≡ 0 = omega (arith, leb-false 1 n p) in rw z first
+no_code d n cs first e =
+    let past : (n - 1 ≡ 0) ⊎ (length cs ≤ n - 1) = grind (arith, nat_tests) in
+    ⊎_elim (λ z. rw z first) (λ h. get_or-eq_default cs d h) past
 
 pub no_unary_code : (n : ℕ) → is_unary n ≡ false → unary_code n ≡ Neg
 unfolding unary_code
