@@ -30,7 +30,7 @@ unfolding All
 all_append P [] ys h k = k
 all_append P (x ∷ xs) ys h k = (h.0, all_append P xs ys h.1 k)
 
-all_at : (P : Row → Type 0) (rs : List ℕ) (k m j : ℕ) → All P (rows_from rs k m) → j < m → P (row_at rs (k + j))
+all_at : (P : Row → Type 0) (rs : List Row) (k m j : ℕ) → All P (rows_from rs k m) → j < m → P (row_at rs (k + j))
 unfolding All rows_from
 all_at P rs k zero j h l = absurd (omega arith)
 all_at P rs k (suc m) zero h l = rw (add-zero k) h.0
@@ -38,24 +38,24 @@ all_at P rs k (suc m) (suc j) h l =
     let e : k + suc j ≡ k + 1 + j = omega arith in
     rw e (all_at P rs (k + 1) m j h.1 (omega arith))
 
-pub all_row : (P : Row → Type 0) (rs : List ℕ) (count k : ℕ) → All P (rows_from rs 0 count) → k < count → P (row_at rs k)
+pub all_row : (P : Row → Type 0) (rs : List Row) (count k : ℕ) → All P (rows_from rs 0 count) → k < count → P (row_at rs k)
 all_row P rs count k h l = let z : 0 + k ≡ k = omega arith in rw z at (all_at P rs 0 count k h l)
 
 -- ---- row k, and those after it
 
-rows_first : (rs : List ℕ) (k m : ℕ) → 0 < m → rows_from rs k m ≡ row_at rs k ∷ rows_from rs (k + 1) (m - 1)
+rows_first : (rs : List Row) (k m : ℕ) → 0 < m → rows_from rs k m ≡ row_at rs k ∷ rows_from rs (k + 1) (m - 1)
 unfolding rows_from
 rows_first rs k zero h = absurd (omega arith)
 rows_first rs k (suc m) h = let p : suc m - 1 ≡ m = omega arith in rw p
 
 -- of count rows, those from row k on are that row and those after it
-pub rows_left : (rs : List ℕ) (count k : ℕ) → k < count →
+pub rows_left : (rs : List Row) (count k : ℕ) → k < count →
     rows_from rs k (count - k) ≡ row_at rs k ∷ rows_from rs (k + 1) (count - (k + 1))
 rows_left rs count k h =
     let e : count - k - 1 ≡ count - (k + 1) = omega arith in
     rw (rows_first rs k (count - k) (omega arith), e) refl
 
-pub statements_first : (temporary : ℕ → Loc) (ws ms rs : List ℕ) (count k : ℕ) → k < count →
+pub statements_first : (temporary : ℕ → Loc) (ws ms : List ℕ) (rs : List Row) (count k : ℕ) → k < count →
     statements_of temporary ws ms (rows_from rs k (count - k))
     ≡ row_statement temporary ws ms (row_at rs k) ∷ statements_of temporary ws ms (rows_from rs (k + 1) (count - (k + 1)))
 unfolding statements_of
@@ -68,7 +68,7 @@ root_both P Q R f (Given p b) h k = f b h k
 root_both P Q R f (Copied p j) h k = tt
 root_both P Q R f (Kept m b) h k = f b h k
 root_both P Q R f (Passed m j) h k = tt
-root_both P Q R f (Made m b) h k = f b h k
+root_both P Q R f (Made m b link key) h k = f b h k
 
 pub root_map : (P Q : ℕ → Type 0) → ((b : ℕ) → P b → Q b) → (r : Row) → OnRoot P r → OnRoot Q r
 root_map P Q f r h = root_both P P Q (λ b x y. f b x) r h h
@@ -80,7 +80,7 @@ given_both P Q R f (Given p b) h k = f b h k
 given_both P Q R f (Copied p j) h k = tt
 given_both P Q R f (Kept m b) h k = tt
 given_both P Q R f (Passed m j) h k = tt
-given_both P Q R f (Made m b) h k = tt
+given_both P Q R f (Made m b link key) h k = tt
 
 pub roots_both : (P Q R : ℕ → Type 0) → ((b : ℕ) → P b → Q b → R b) → (rs : List Row) → All (OnRoot P) rs →
     All (OnRoot Q) rs → All (OnRoot R) rs
@@ -100,7 +100,7 @@ below_up m n l (Given p b) h = tt
 below_up m n l (Copied p k) h = omega arith
 below_up m n l (Kept j b) h = omega arith
 below_up m n l (Passed j k) h = (omega (arith, h.0), omega (arith, h.1))
-below_up m n l (Made j b) h = omega arith
+below_up m n l (Made j b link key) h = omega arith
 
 pub named_up : (m n : ℕ) → m ≤ n → (rs : List Row) → All (NumberedBelow m) rs → All (NumberedBelow n) rs
 named_up m n l rs h = all_map (NumberedBelow m) (NumberedBelow n) (below_up m n l) rs h

@@ -9,6 +9,7 @@ use Rattle.definitions.specs.Trim.{trim_all}
 use Rattle.node.specs.Marks.{mark_of}
 use Rattle.node.specs.Nodes.{end_at, tree, Table}
 use Rattle.node.specs.Views.{Marked, Fresh, zeros}
+use Rattle.statement.specs.declared.Row.{Row}
 use Rattle.statement.specs.declared.Row.TheVariants.{Given}
 use Rattle.statement.specs.declared.State.{State}
 use Rattle.statement.specs.Rows.{RoomFor, row_at, place_at, root_at, rows_from, statements_of}
@@ -19,7 +20,7 @@ abbrev pub Closed : (ws : List ℕ) (i : ℕ) → Type 0
 Closed ws i = (z : ℕ) → z < i → end_at ws z ≤ i
 
 -- a sheet that was read: n nodes, and a row for each statement, in the order of their roots
-pub record SheetHeld (ws rows : List ℕ) (n count : ℕ) : Type 0 where
+pub record SheetHeld (ws : List ℕ) (rows : List Row) (n count : ℕ) : Type 0 where
   pub table : Table ws n
   pub few : count ≤ statement_limit
   pub long : RoomFor rows count
@@ -49,7 +50,7 @@ abbrev pub Owned : (ws ms : List ℕ) → ℕ → Type 0
 Owned ws ms i = (z : ℕ) → z < i → i < end_at ws z → Marked ms i
 
 -- the rows that sharing put out, and the temporaries that it gave out: the roots are different nodes
-pub record SheetEliminated (ws ms rows : List ℕ) (n : ℕ) (s : State) : Type 0 where
+pub record SheetEliminated (ws ms : List ℕ) (rows : List Row) (n : ℕ) (s : State) : Type 0 where
   pub table : Table ws n
   pub wide : length ms ≡ node_limit
   pub long : RoomFor rows s.count
@@ -63,7 +64,8 @@ pub record SheetEliminated (ws ms rows : List ℕ) (n : ℕ) (s : State) : Type 
   pub distinct : (j k : ℕ) → j < k → k < s.count → OnRoot (λ x. OnRoot (λ y. x ≢ y) (row_at rows k)) (row_at rows j)
 
 -- the rows that trimming put out, and the next temporary: the definition's statements, whatever places the temporaries have
-pub record SheetTrimmed (sharing : Bool) (scratch : ℕ) (ws ms ms' rows rows' : List ℕ) (n : ℕ) (s s' : State) : Type 0 where
+pub record SheetTrimmed (sharing : Bool) (scratch : ℕ) (ws ms ms' : List ℕ) (rows rows' : List Row) (n : ℕ) (s s' : State)
+    : Type 0 where
   pub trimmed : (temporary : ℕ → Loc) → Fresh temporary ws n
       → trim_all sharing scratch temporary s.next [] (statements_of temporary ws ms (rows_from rows 0 s.count))
       ≡ record { next = s'.next; statements = statements_of temporary ws ms' (rows_from rows' 0 s'.count) }
