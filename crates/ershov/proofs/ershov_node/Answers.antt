@@ -1,41 +1,21 @@
 -- A node's number comes from those of its sides, which come after it.
-use Rattle.std.proofs.Common.{arith}
-use Rattle.ershov.proofs.Numbers.{known_one, known_two, numbered_read, numbered_const, numbered_var, numbered_one, numbered_two}
+use Rattle.std.proofs.Common.{◌<◌, ◌≤◌, rules, arith}
+use Rattle.limits.specs.Limits.{node_limit}
+use Rattle.node.proofs.Sides.{sides_more}
+use Rattle.ershov.specs.Number.{view_number}
+use Rattle.ershov.proofs.Numbers.{sides_known, numbered_node}
 use Rattle.ershov.proofs.ershov_node.Goals as goal
 
-pub ershov-requires : goal.ershov-requires
-ershov-requires c =
-    let side = (known_one c.requires.0 c.requires.1 c.unpack-node.ensures c.in-Unary.is).0 in
-    omega (arith, side.near.ends, side.near.within)
+pub node_ershov-requires : goal.node_ershov-requires
+node_ershov-requires c =
+    sides_more _ _
+    (λ j side.
+    let inside : j < node_limit = omega (arith, side.near.ends, side.near.within) in
+    let low : view_number c.args.marks.now c.args.es.now j ≤ node_limit = omega (arith, side.viewed.most, side.near.shallow) in
+    search rules)
+    _ _ (sides_known c.requires.0 c.requires.1 c.unpack.ensures)
 
-pub ershov-l-requires : goal.ershov-l-requires
-ershov-l-requires c =
-    let sides = known_two c.requires.0 c.requires.1 c.unpack-node.ensures c.in-Binary.is in
-    omega (arith, sides.0.near.ends, sides.0.near.within)
-
-pub ershov-r-requires : goal.ershov-r-requires
-ershov-r-requires c =
-    let sides = known_two c.requires.0 c.requires.1 c.unpack-node.ensures c.in-Binary.is in
-    omega (arith, sides.1.near.ends, sides.1.near.within)
-
-pub calc_ershov-requires : goal.calc_ershov-requires
-calc_ershov-requires c =
-    let sides = known_two c.requires.0 c.requires.1 c.unpack-node.ensures c.in-Binary.is in
-    omega (arith, sides.0.viewed.most, sides.0.near.shallow, c.ershov-l.ensures)
-
-pub returns-in-Const : goal.returns-in-Const
-returns-in-Const c = numbered_const _ c.requires.0 c.unpack-node.ensures c.in-Const.is
-
-pub returns-in-Var : goal.returns-in-Var
-returns-in-Var c = numbered_var _ c.requires.0 c.unpack-node.ensures c.in-Var.is
-
-pub returns-in-Unary : goal.returns-in-Unary
-returns-in-Unary c =
-    let side = (known_one c.requires.0 c.requires.1 c.unpack-node.ensures c.in-Unary.is).0 in
-    numbered_one _ c.requires.0 c.unpack-node.ensures c.in-Unary.is (numbered_read side.viewed c.ershov.ensures)
-
-pub returns-in-Binary : goal.returns-in-Binary
-returns-in-Binary c =
-    let sides = known_two c.requires.0 c.requires.1 c.unpack-node.ensures c.in-Binary.is in
-    numbered_two _ c.requires.0 c.unpack-node.ensures c.in-Binary.is
-    (numbered_read sides.0.viewed c.ershov-l.ensures) (numbered_read sides.1.viewed c.ershov-r.ensures) c.calc_ershov.ensures
+pub returns : goal.returns
+returns c =
+    numbered_node c.requires.0 c.requires.1 c.unpack.ensures
+    (c.node_ershov.ensures (view_number c.args.marks.now c.args.es.now) (λ j r given. search rules))

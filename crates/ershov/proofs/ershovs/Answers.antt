@@ -3,5 +3,5 @@ use Rattle.std.proofs.Common.{arith}
 use Rattle.ershov.proofs.Filling.{node_asked}
 use Rattle.ershov.proofs.ershovs.Goals as goal
 
-pub ershov_node-e-requires : goal.ershov_node-e-requires
-ershov_node-e-requires c = node_asked c.loop-i.invariant (omega arith) c.requires.0
+pub ershov_node-requires : goal.ershov_node-requires
+ershov_node-requires c = node_asked c.loop-i.invariant (omega arith) c.requires.0

@@ -4,6 +4,3 @@ use Rattle.ershov.proofs.ershovs.Given as goal
 
 abbrev pub invariant-loop-i : goal.invariant-loop-i
 invariant-loop-i l = FilledFrom l.ws l.marks l.es l.i l.n
-
-abbrev pub decreases-loop-i : goal.decreases-loop-i
-decreases-loop-i l = l.i
