@@ -44,7 +44,7 @@ module _ {ws cs : List ℕ} {i j : ℕ} {x : Node} (u : Compared ws cs i j x) wh
   second_sides : Lies (Later j (length cs)) ws j (node_at ws j)
   second_sides = table_sides ws (length cs) u.ready.table j u.inside
 
-  pub other_heads_differ : same_head x (node_at ws j) ≡ false → false ≡ same (tree ws i) (tree ws j)
+  other_heads_differ : same_head x (node_at ws j) ≡ false → false ≡ same (tree ws i) (tree ws j)
   other_heads_differ h = sym (trees_told ∙ other_heads (tree ws) (tree ws) i j x (node_at ws j) h)
 
 -- ---- with one head; the first was told to be z
@@ -53,11 +53,20 @@ pub record OneHead (ws cs : List ℕ) (i j : ℕ) (z : Node) : Type 0 where
   pub nodes : Compared ws cs i j z
   pub paired : Paired z (node_at ws j)
 
-pub one_head : {ws cs : List ℕ} {i j : ℕ} {x z : Node} → Compared ws cs i j x → same_head x (node_at ws j) ≡ true → x ≡ z →
-    OneHead ws cs i j z
-one_head {ws} {cs} {i} {j} {x} u h e =
-    let paired = head_pairs x (node_at ws j) (node_sized ws i u.first) (node_sized ws j refl) h in
-    record { nodes = rw e at u; paired = rw e at paired }
+module _ {ws cs : List ℕ} {i j : ℕ} (ready : Comparing ws cs i) (p : (i < j) × (j < length cs)) where
+  compared : {x : Node} → x ≡ node_at ws i → Compared ws cs i j x
+  compared e = record { ready = ready; order = p.0; inside = p.1; first = e }
+
+  pub heads_apart : {b : Bool} → b ≡ same_head (node_at ws i) (node_at ws j) → b ≡ false →
+      false ≡ same (tree ws i) (tree ws j)
+  heads_apart heads apart = other_heads_differ (compared refl) (sym heads ∙ apart)
+
+  pub one_head : {x z : Node} {b : Bool} → b ≡ same_head (node_at ws i) (node_at ws j) → b ≡ true → x ≡ node_at ws i →
+      x ≡ z → OneHead ws cs i j z
+  one_head heads alike unpacked told =
+      let first : node_at ws i ≡ _ = sym unpacked ∙ told in
+      let paired = head_pairs (node_at ws i) (node_at ws j) (node_sized ws i refl) (node_sized ws j refl) (sym heads ∙ alike) in
+      record { nodes = compared (sym first); paired = rw first at paired }
 
 module _ {ws cs : List ℕ} {i j : ℕ} where
   pub const_nodes_same : {k : ℕ} → OneHead ws cs i j (Const k) → true ≡ same (tree ws i) (tree ws j)

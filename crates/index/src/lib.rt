@@ -1,4 +1,5 @@
 // Where items stand that are sought by their mixes: digital search trees, one for each remainder of a mix.
+// They stand in an array's words, and not in boxes or a map, since the library has no heap.
 #![tactic(auto)]
 
 ghost use Rattle.std.specs.Prelude.{◌≡◌, ◌/◌};
@@ -6,22 +7,33 @@ ghost use Rattle.index.specs.Paths.{slot_count, slot, under};
 
 use limits::SLOTS;
 
-// The word that the search for a mix begins at, and the bits that it goes by from there.
-pub fn slot_of(m: u64) -> usize
-    ensures { result ≡ slot m }
-{
-    (m % SLOTS as u64) as usize
+// A search by a mix: the word that it has come to, and the bits that it goes by from there.
+#[derive(Clone, Copy)]
+pub struct Search {
+    pub at: usize,
+    pub bits: u64,
 }
 
-pub fn bits_of(m: u64) -> u64
-    ensures { result ≡ m / slot_count }
-{
-    m / SLOTS as u64
-}
+impl Search {
+    // For a mix it begins at the word of its tree.
+    pub fn new(m: u64) -> Self
+        ensures at { result.at ≡ slot m }
+        ensures bits { result.bits ≡ m / slot_count }
+    {
+        Search {
+            at: (m % SLOTS as u64) as usize,
+            bits: m / SLOTS as u64,
+        }
+    }
 
-// The word under an item that the next bit chooses.
-pub fn word_under(item: u32, bits: u64) -> usize
-    ensures { result ≡ under item bits }
-{
-    SLOTS + 2 * (item as usize) + (bits % 2) as usize
+    // Past an item it goes on to the word under it that the next bit chooses.
+    pub fn past(self, item: u32) -> Self
+        ensures at { result.at ≡ under item self.bits }
+        ensures bits { result.bits ≡ self.bits / 2 }
+    {
+        Search {
+            at: SLOTS + 2 * (item as usize) + (self.bits % 2) as usize,
+            bits: self.bits / 2,
+        }
+    }
 }
