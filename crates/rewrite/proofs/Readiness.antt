@@ -1,21 +1,16 @@
 -- What a call of the second pass may rely on, from what its caller may. Assumes nothing.
 use mathlib.Core.Path.{◌≡◌, ◌∙◌}
+use mathlib.Core.Bool.{true, false}
 use mathlib.Core.List.{List}
 use Prim.Native.Nat.{ℕ, ◌+◌, ◌<◌}
 use native.Mathlib.Omega.{arith}
 use lib.ListN.{get_or, length-set}
-use Rattle.limits.specs.Limits.{row_limit}
 use Rattle.definitions.specs.Tree.{Tree}
 use Rattle.statement.specs.Rows.{RoomFor}
-use Rattle.rewrite.specs.Stage.{Stage}
+use Rattle.rewrite.specs.Stage.{Stage, flag, RowLeft}
 use Rattle.rewrite.specs.Steps.{NodeShared, TextShared, RewriteReady, Rewriter, at_sides, TextsStored, StoresTexts}
 use Rattle.statement.proofs.RowsSpent.{rows_spend}
-use Rattle.rewrite.proofs.Tidying.{flag}
 use Rattle.rewrite.proofs.Rewriting.{text_node, flag_pledges, text_row_fits}
-
--- a row more is left
-abbrev pub RowLeft : Stage → Type 0
-RowLeft p = RoomFor p.rows (p.count + 1) × (p.count < row_limit)
 
 module _ {more : ℕ} {At : ℕ → List Tree → Type 0} {p : Stage} (r : RewriteReady more At p) where
   pub ready_at : {At' : ℕ → List Tree → Type 0} → At' r.nodes r.texts → RewriteReady 0 At' p
@@ -43,20 +38,20 @@ module _ {more : ℕ} {At : ℕ → List Tree → Type 0} {p : Stage} (r : Rewri
         (room, omega (arith, room, x.rows, r.rows))
 
 -- at the node of a text, with its flag set
-pub ready_text : {ws sh tx : List ℕ} {t : ℕ} {p : Stage} → (get_or p.flags t 0 ≡ 1 → ⊥) →
+pub ready_text : {ws sh tx : List ℕ} {t : ℕ} {p : Stage} → get_or p.flags t false ≡ false →
     RewriteReady 0 (TextShared ws sh tx t) p → RewriteReady 0 (NodeShared ws sh tx (get_or tx t 0)) (flag p t)
 ready_text {t = t} {p = p} new r =
     record {
       nodes = r.nodes;
       texts = r.texts;
       at = text_node r.at;
-      flags = length-set p.flags t 1 ∙ r.flags;
+      flags = length-set p.flags t true ∙ r.flags;
       rows = r.rows;
       room = omega (arith, r.room, flag_pledges r.at p new r.flags);
     }
 
 -- a row is left for a text after those in it
-pub text_row_left : {ws sh tx : List ℕ} {t : ℕ} {p p' : Stage} → (get_or p.flags t 0 ≡ 1 → ⊥) →
+pub text_row_left : {ws sh tx : List ℕ} {t : ℕ} {p p' : Stage} → get_or p.flags t false ≡ false →
     RewriteReady 0 (TextShared ws sh tx t) p →
     StoresTexts (NodeShared ws sh tx (get_or tx t 0)) (at_sides ws (get_or tx t 0)) ws sh (flag p t) p' → RowLeft p'
 text_row_left {p = p} {p' = p'} new r x =

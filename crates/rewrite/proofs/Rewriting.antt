@@ -1,15 +1,12 @@
 -- How rewritings follow one another: what a node, its sides, a text and a statement store and put out. Assumes nothing.
 use mathlib.Core.Path.{◌≡◌, refl, sym, ap, ap₂, ◌∙◌}
-use mathlib.Core.Bool.{true, false}
+use mathlib.Core.Bool.{false}
 use mathlib.Core.List.{List, [], ◌∷◌, ◌++◌, append_assoc, append-nil}
-use Prim.Native.Nat.{ℕ, ◌+◌, ◌-◌, ◌*◌, ◌<◌, ◌≤◌}
+use Prim.Native.Nat.{ℕ, ◌+◌, ◌-◌, ◌<◌, ◌≤◌}
 use native.Mathlib.Omega.{arith}
 use lib.ListN.{length, get_or}
-use lib.Dec.{eqb}
-use borrow.Author.Tests.{ne_eqb}
 use Rattle.limits.specs.Limits.{depth_limit, node_limit}
 use Rattle.symbol.specs.declared.Loc.{Loc}
-use Rattle.symbol.specs.Place.{word_place}
 use Rattle.operation.specs.declared.One.{One}
 use Rattle.operation.specs.declared.Two.{Two}
 use Rattle.definitions.specs.Tree.{Tree, depth}
@@ -26,12 +23,12 @@ use Rattle.statement.specs.declared.Row.TheVariants.{Given, Copied, Kept}
 use Rattle.statement.specs.Rows.{RoomFor, row_statement, statements_of}
 use Rattle.statement.specs.Rowing.{spend}
 use Rattle.statement.proofs.RowsPut.{rows_put, put_length, statements_append}
-use Rattle.rewrite.specs.Stage.{Stage, stage, rows_of, Flagged, pledged, RowShared, RootIs}
+use Rattle.rewrite.specs.Stage.{Stage, put, flag, rows_of, Flagged, pledged, RowShared, RootIs}
 use Rattle.rewrite.specs.Steps.{NodeShared, TextShared, RootShared, Rewriter, inside, at_node, at_sides, at_text}
 use Rattle.rewrite.specs.Steps.{Puts, TextsStored, StatementPut}
 use Rattle.rewrite.proofs.Flags.{unset_set, flagged_set}
 use Rattle.statement.proofs.RowsSpent.{rows_spend, put_spends}
-use Rattle.rewrite.proofs.Tidying.{put, flag, added_none, added_then, added_text, added_statement}
+use Rattle.rewrite.proofs.Tidying.{added_none, added_then, added_text, added_statement}
 use Rattle.rewrite.proofs.Marks.{unmarked_finds, marked_finds, rewritten_is_view, inside_is_seen, rewrite_meets, rewrite_enough}
 
 module _ {n : ℕ} {texts : List Tree} {ws sh : List ℕ} {p : Stage} where
@@ -88,15 +85,15 @@ row_put {T} {ws} {sh} {rs} {x} p r h e g q =
           ∙ ap (λ (l : List Statement). before ++ l) (sym g);
     }
 
--- ---- a node
+-- ---- a node, whose mark m is 0, or one more than its text's number t
+
+pub unmarked_by : {m : ℕ} → (1 ≤ m → ⊥) → m ≡ 0
+unmarked_by {m} h = omega (arith, h)
+
+pub marked_by : {m t : ℕ} → (1 ≤ m) × (t ≡ m - 1) → (m ≡ 0 → ⊥) × (t ≡ m - 1)
+marked_by h = (λ z. omega (arith, h.0), h.1)
 
 module _ {ws sh tx : List ℕ} {i n : ℕ} {texts : List Tree} (a : NodeShared ws sh tx i n texts) where
-  pub node_below : i < node_limit
-  node_below = omega (arith, a.below, a.shared.table.few)
-
-  pub node_room : 4 * i + 3 < length ws
-  node_room = omega (arith, a.below, a.shared.table.room)
-
   node_depth : depth (tree ws i) ≤ depth_limit
   node_depth = tree_depth ws i (a.shared.table.laid i a.below)
 
@@ -215,12 +212,7 @@ module _ {ws sh tx : List ℕ} {t n : ℕ} {texts : List Tree} (a : TextShared w
       }
 
   module _ (p : Stage) where
-    pub text_old : get_or p.flags t 0 ≡ 1 → length p.flags ≡ node_limit → TextsStored n texts ws sh p p (at_text ws tx t texts)
-    text_old e l =
-        rewrote_none l
-        (λ T st h. let q : holds st t ≡ true = h t text_below ∙ ap (λ (x : ℕ). eqb x 1) e in rw q (refl, refl))
-
-    module _ (new : get_or p.flags t 0 ≡ 1 → ⊥) (l : length p.flags ≡ node_limit) where
+    module _ (new : get_or p.flags t false ≡ false) (l : length p.flags ≡ node_limit) where
       -- a flag set pledges two rows less
       pub flag_pledges : pledged (flag p t) (length texts) + 2 ≡ pledged p (length texts)
       flag_pledges = omega (arith, unset_set p.flags t (length texts) a.below (omega (arith, text_below)) new)
@@ -241,7 +233,7 @@ module _ {ws sh tx : List ℕ} {t n : ℕ} {texts : List Tree} (a : TextShared w
               room = omega (arith, x.room, flag_pledges, put_spends p'.rows p'.count r k);
               added = added_text p p' t root (omega (arith, text_below)) new a.mark x.added text_row k;
               puts = λ T st h.
-                  let q : holds st t ≡ false = h t text_below ∙ ne_eqb (get_or p.flags t 0) 1 new in
+                  let q : holds st t ≡ false = h t text_below ∙ new in
                   let y = inside texts T (t ∷ st) (tree ws root) in
                   rw q
                   (row_put p' r k refl
@@ -250,18 +242,18 @@ module _ {ws sh tx : List ℕ} {t n : ℕ} {texts : List Tree} (a : TextShared w
                   (x.puts T (t ∷ st) (flagged_set p.flags st t (omega (arith, text_below)) h)));
             }
 
-        pub text_new : {rs : List ℕ} → RoomFor p'.rows (p'.count + 1) → rs ≡ (put p' (Kept t (get_or tx t 0))).rows →
-            TextsStored n texts ws sh p (stage p'.flags rs (p'.count + 1)) (at_text ws tx t texts)
+        pub text_new : {q : Stage} → RoomFor p'.rows (p'.count + 1) → q ≡ put p' (Kept t (get_or tx t 0)) →
+            TextsStored n texts ws sh p q (at_text ws tx t texts)
         text_new k e = rw e (text_put k)
 
 -- ---- a statement
 
-module _ {ws sh tx : List ℕ} {i n : ℕ} {texts : List Tree} (a : RootShared ws sh tx i n texts) (place : ℕ) {p : Stage}
+module _ {ws sh tx : List ℕ} {i n : ℕ} {texts : List Tree} (a : RootShared ws sh tx i n texts) (place : Loc) {p : Stage}
     (p' : Stage) (h : RoomFor p'.rows (p'.count + 1)) (x : TextsStored n texts ws sh p p' (at_node ws i texts)) where
   statement_by : (r : Row) → RowShared ws sh n (length texts) r → spend r ≡ 1 →
       ((y : ℕ) → RootIs r y → (y ≡ i) × (get_or sh i 0 ≡ 0)) →
-      ((T : ℕ → Loc) → assign (word_place place) (view T ws sh i) ≡ row_statement T ws sh r) →
-      {rs : List ℕ} → rs ≡ (put p' r).rows → StatementPut n texts place i ws sh p (stage p'.flags rs (p'.count + 1))
+      ((T : ℕ → Loc) → assign place (view T ws sh i) ≡ row_statement T ws sh r) →
+      {q : Stage} → q ≡ put p' r → StatementPut n texts place i ws sh p q
   statement_by r fit one own s e =
       rw e
       record {
@@ -274,12 +266,11 @@ module _ {ws sh tx : List ℕ} {i n : ℕ} {texts : List Tree} (a : RootShared w
             let g = rewrite_enough texts T (depth t) depth_limit t (omega arith) (node_depth a.node) st in
             let v = rewritten_is_view a.node.shared T i a.node.below st in
             row_put p' r h (ap (λ (y : Rewritten). y.stored) g)
-            (ap₂ (λ (y : Rewritten) (z : Statement). y.before ++ (z ∷ [])) g (ap (assign (word_place place)) v ∙ s T))
+            (ap₂ (λ (y : Rewritten) (z : Statement). y.before ++ (z ∷ [])) g (ap (assign place) v ∙ s T))
             (x.puts T st f);
       }
 
-  pub statement_given : {rs : List ℕ} → get_or sh i 0 ≡ 0 → rs ≡ (put p' (Given place i)).rows →
-      StatementPut n texts place i ws sh p (stage p'.flags rs (p'.count + 1))
+  pub statement_given : {q : Stage} → get_or sh i 0 ≡ 0 → q ≡ put p' (Given place i) → StatementPut n texts place i ws sh p q
   statement_given z e =
       statement_by (Given place i)
       (record {
@@ -289,11 +280,11 @@ module _ {ws sh tx : List ℕ} {i n : ℕ} {texts : List Tree} (a : RootShared w
         owned = λ y l u. absurd (omega (arith, a.closed y l));
         unmarked = z;
       })
-      refl (λ y o. (sym o, z)) (λ T. ap (assign (word_place place)) (view_unmarked T ws sh i z)) e
+      refl (λ y o. (sym o, z)) (λ T. ap (assign place) (view_unmarked T ws sh i z)) e
 
-  pub statement_copied : {rs : List ℕ} → Marked sh i → rs ≡ (put p' (Copied place (get_or sh i 0 - 1))).rows →
-      StatementPut n texts place i ws sh p (stage p'.flags rs (p'.count + 1))
+  pub statement_copied : {q : Stage} → Marked sh i → q ≡ put p' (Copied place (get_or sh i 0 - 1)) →
+      StatementPut n texts place i ws sh p q
   statement_copied k e =
       statement_by (Copied place (get_or sh i 0 - 1))
       (record { unmade = tt; named = (node_text a.node k).below; placed = tt; owned = tt; unmarked = tt })
-      refl (λ y o. absurd o) (λ T. ap (assign (word_place place)) (view_marked T ws sh i k)) e
+      refl (λ y o. absurd o) (λ T. ap (assign place) (view_marked T ws sh i k)) e

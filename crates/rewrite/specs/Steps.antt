@@ -1,8 +1,7 @@
 -- What each step of the second pass relies on and does.
-use Rattle.std.specs.Prelude.{◌≡◌, ℕ, ◌+◌, ◌<◌, ◌≤◌, List, [], ◌∷◌, ◌++◌, length, get_or}
-use Rattle.limits.specs.Limits.{depth_limit, node_limit, rows_length}
+use Rattle.std.specs.Prelude.{◌≡◌, ℕ, true, false, ◌+◌, ◌<◌, ◌≤◌, List, [], ◌∷◌, ◌++◌, length, get_or}
+use Rattle.limits.specs.Limits.{depth_limit, node_limit, row_limit}
 use Rattle.symbol.specs.declared.Loc.{Loc}
-use Rattle.symbol.specs.Place.{word_place}
 use Rattle.definitions.specs.Tree.{Tree, depth}
 use Rattle.definitions.specs.Statement.{assign}
 use Rattle.definitions.specs.Eliminate.{holds, Rewritten, sides, stores, rewrite}
@@ -36,7 +35,7 @@ pub record RewriteReady (more : ℕ) (At : ℕ → List Tree → Type 0) (p : St
   pub texts : List Tree
   pub at : At nodes texts
   pub flags : length p.flags ≡ node_limit
-  pub rows : length p.rows ≤ rows_length
+  pub rows : length p.rows ≤ row_limit
   pub room : RoomFor p.rows (more + pledged p (length texts))
 
 -- ---- what a step does
@@ -59,10 +58,10 @@ at_sides ws i texts temporary st = inside texts temporary st (tree ws i)
 abbrev pub at_text : (ws tx : List ℕ) (t : ℕ) (texts : List Tree) → Rewriter
 at_text ws tx t texts temporary st = stores texts temporary (holds st t) t (tree ws (get_or tx t 0)) st (inside texts temporary)
 
-abbrev pub at_statement : (ws : List ℕ) (place i : ℕ) (texts : List Tree) → Rewriter
+abbrev pub at_statement : (ws : List ℕ) (place : Loc) (i : ℕ) (texts : List Tree) → Rewriter
 at_statement ws place i texts temporary st =
     let x = rewrite texts temporary (depth (tree ws i)) st (tree ws i) in
-    record { stored = x.stored; before = x.before ++ (assign (word_place place) x.tree ∷ []); tree = x.tree }
+    record { stored = x.stored; before = x.before ++ (assign place x.tree ∷ []); tree = x.tree }
 
 -- the flags and rows after a rewriting, from the rows rs on
 pub record Puts (temporary : ℕ → Loc) (ws sh : List ℕ) (rs : List Row) (p : Stage) (x : Rewritten) : Type 0 where
@@ -71,7 +70,7 @@ pub record Puts (temporary : ℕ → Loc) (ws sh : List ℕ) (rs : List Row) (p 
 
 -- storing texts keeps the flags that are set, puts no row on a root that might have one, and keeps the rows tidy
 pub record TextsAdded (ws sh : List ℕ) (n k : ℕ) (p p' : Stage) : Type 0 where
-  pub grown : (t : ℕ) → get_or p.flags t 0 ≡ 1 → get_or p'.flags t 0 ≡ 1
+  pub grown : (t : ℕ) → get_or p.flags t false ≡ true → get_or p'.flags t false ≡ true
   pub fresh : (hi x : ℕ) → MayRoot sh p.flags hi x → NoRoot x p → NoRoot x p'
   pub tidy : (hi : ℕ) → Tidy ws sh n k hi p → Tidy ws sh n k hi p'
 
@@ -92,7 +91,7 @@ abbrev pub TextsStored : (n : ℕ) (texts : List Tree) (ws sh : List ℕ) (p p' 
 TextsStored n texts ws sh p p' f = Rewrote 0 (TextsAdded ws sh n (length texts) p p') texts ws sh p p' f
 
 -- at a statement whose root is node i
-abbrev pub StatementPut : (n : ℕ) (texts : List Tree) (place i : ℕ) (ws sh : List ℕ) (p p' : Stage) → Type 0
+abbrev pub StatementPut : (n : ℕ) (texts : List Tree) (place : Loc) (i : ℕ) (ws sh : List ℕ) (p p' : Stage) → Type 0
 StatementPut n texts place i ws sh p p' =
     Rewrote 1 (StatementAdded ws sh n (length texts) i p p') texts ws sh p p' (at_statement ws place i texts)
 
@@ -100,5 +99,5 @@ StatementPut n texts place i ws sh p p' =
 abbrev pub StoresTexts : (At : ℕ → List Tree → Type 0) (f : List Tree → Rewriter) (ws sh : List ℕ) (p p' : Stage) → Type 0
 StoresTexts At f ws sh p p' = (n : ℕ) (texts : List Tree) → At n texts → TextsStored n texts ws sh p p' (f texts)
 
-abbrev pub PutsStatement : (At : ℕ → List Tree → Type 0) (place i : ℕ) (ws sh : List ℕ) (p p' : Stage) → Type 0
+abbrev pub PutsStatement : (At : ℕ → List Tree → Type 0) (place : Loc) (i : ℕ) (ws sh : List ℕ) (p p' : Stage) → Type 0
 PutsStatement At place i ws sh p p' = (n : ℕ) (texts : List Tree) → At n texts → StatementPut n texts place i ws sh p p'
