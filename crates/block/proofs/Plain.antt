@@ -8,7 +8,6 @@ use native.Mathlib.Omega.{arith}
 use lib.ListN.{get_or}
 use lib.Dec.{eqb}
 use Rattle.symbol.specs.declared.Loc.{Loc}
-use Rattle.symbol.specs.Place.{word_place}
 use Rattle.definitions.specs.Tree.{Tree, constant, variable, one, two, depth}
 use Rattle.definitions.specs.Statement.{Statement, assign, call}
 use Rattle.definitions.specs.Eliminate.{kept, find, rewrite, eliminate, texts_of}
@@ -74,7 +73,7 @@ zeros_most ms (suc n) = omega (arith, zeros_most ms n, bare_most (get_or ms n 0)
 
 -- ---- the sheet's own rows
 
-module _ {ws rows ms : List ℕ} {n count : ℕ} (held : SheetHeld ws rows n count) (unmarked : Unmarked ms) where
+module _ {ws ms : List ℕ} {rows : List Row} {n count : ℕ} (held : SheetHeld ws rows n count) (unmarked : Unmarked ms) where
   -- what holds of a statement's row holds of each
   own_row : (P : Row → Type 0) (j : ℕ) → j < count → P (Given (place_at rows j) (root_at rows j)) → P (row_at rows j)
   own_row P j l h = rw (held.given j l) h
@@ -93,7 +92,7 @@ module _ {ws rows ms : List ℕ} {n count : ℕ} (held : SheetHeld ws rows n cou
   rows_say_lem temporary k (suc m) l =
       ap₂ (λ (s : Statement) (ss : List Statement). s ∷ ss)
       (ap (row_statement temporary ws ms) (held.given k (omega arith))
-      ∙ ap (assign (word_place (place_at rows k))) (seen_unmarked temporary ws ms unmarked.blank (root_at rows k)))
+      ∙ ap (assign (place_at rows k)) (seen_unmarked temporary ws ms unmarked.blank (root_at rows k)))
       (rows_say_lem temporary (k + 1) m (omega arith))
 
   own_handed : SheetEliminated ws ms rows n (record { next = 0; count = count })

@@ -12,18 +12,13 @@ use borrow.Author.Tests.{eqb-true, eqb-false, eq-eqb, le-leb}
 use Rattle.definitions.specs.Tree.{weight}
 use Rattle.definitions.specs.Same.{same, among}
 use Rattle.definitions.specs.Eliminate.{Walk, note}
-use Rattle.node.specs.Nodes.{tree, Table}
+use Rattle.node.specs.Nodes.{tree}
 use Rattle.numbers.specs.Filled.{at}
-use Rattle.classes.specs.Classes.{Classed}
 use Rattle.node.specs.Marks.{mark_of}
-use Rattle.share.specs.Sharing.{ClassNumbers, MeetReady, Noted, Walked}
+use Rattle.share.specs.Sharing.{MeetReady, Noted, Walked}
 use Rattle.share.proofs.Texts.{among_mark, mark_new, mark_kept, note_light, note_first, note_second, note_later}
 use Rattle.share.proofs.Texts.{text_kept, text_last}
 use Rattle.share.proofs.Unused.{at_set, unused_first, unused_second}
-
-pub class_numbers : {ws cs : List ℕ} {n : ℕ} → Table ws n → Classed ws cs 0 n → ClassNumbers cs n
-class_numbers t q =
-    record { few = t.few; above = λ i l. q.above i (omega arith) l; below = λ i l. q.below i (omega arith) l }
 
 module _ {ws cs : List ℕ} {n : ℕ} {ms tx : List ℕ} {i k : ℕ} (r : MeetReady ws cs n ms tx i k) where
   tells : (j : ℕ) → j < n → same (tree ws i) (tree ws j) ≡ eqb (at cs i) (at cs j)
@@ -71,7 +66,7 @@ module _ {ws cs : List ℕ} {n : ℕ} {ms tx : List ℕ} {i k : ℕ} (r : MeetRe
       go false e = h.own s b
 
   module _ (heavy : 5 ≤ weight (tree ws i)) where
-    later : (at ms (at cs i) ≡ 0 → ⊥) → (at ms (at cs i) ≡ 1 → ⊥) → Walked ws cs n (note (tree ws i)) ms tx k ms tx k
+    pub later : (at ms (at cs i) ≡ 0 → ⊥) → (at ms (at cs i) ≡ 1 → ⊥) → Walked ws cs n (note (tree ws i)) ms tx k ms tx k
     later a b =
         stay
         (λ w h. note_later (tree ws i) w heavy
@@ -106,7 +101,7 @@ module _ {ws cs : List ℕ} {n : ℕ} {ms tx : List ℕ} {i k : ℕ} (r : MeetRe
             own = own_kept (omega arith) 1 w h;
           }
 
-    first : at ms (at cs i) ≡ 0 → Walked ws cs n (note (tree ws i)) ms tx k (set ms (at cs i) 1) tx k
+    pub first : at ms (at cs i) ≡ 0 → Walked ws cs n (note (tree ws i)) ms tx k (set ms (at cs i) 1) tx k
     first z =
         record {
           fits =
@@ -178,7 +173,7 @@ module _ {ws cs : List ℕ} {n : ℕ} {ms tx : List ℕ} {i k : ℕ} (r : MeetRe
             own = second_own;
           }
 
-    second : at ms (at cs i) ≡ 1 → Walked ws cs n (note (tree ws i)) ms tx k (set ms (at cs i) (k + 2)) (set tx k i) (k + 1)
+    pub second : at ms (at cs i) ≡ 1 → Walked ws cs n (note (tree ws i)) ms tx k (set ms (at cs i) (k + 2)) (set tx k i) (k + 1)
     second z =
         record {
           fits =
@@ -190,14 +185,3 @@ module _ {ws cs : List ℕ} {n : ℕ} {ms tx : List ℕ} {i k : ℕ} (r : MeetRe
               };
           noted = second_noted z;
         }
-
-    -- the class as the code has it
-    module _ {c : ℕ} (e : c ≡ at cs i) where
-      pub first_at : at ms c ≡ 0 → Walked ws cs n (note (tree ws i)) ms tx k (set ms c 1) tx k
-      first_at z = rw e (first (rw e at z))
-
-      pub second_at : at ms c ≡ 1 → Walked ws cs n (note (tree ws i)) ms tx k (set ms c (k + 2)) (set tx k i) (k + 1)
-      second_at z = rw e (second (rw e at z))
-
-      pub later_at : (at ms c ≡ 0 → ⊥) → (at ms c ≡ 1 → ⊥) → Walked ws cs n (note (tree ws i)) ms tx k ms tx k
-      later_at a b = later (rw e at a) (rw e at b)

@@ -1,31 +1,29 @@
 -- Statement after statement, the marks by node, and what the first pass hands over. Assumes nothing.
 use mathlib.Core.Path.{◌≡◌, refl, ap, ◌∙◌}
-use mathlib.Core.Bool.{Bool, true, false, cond}
+use mathlib.Core.Bool.{true}
 use mathlib.Core.List.{List, []}
-use Prim.Native.Nat.{ℕ, zero, suc, ◌+◌, ◌-◌, ◌<◌, ◌≤◌}
+use Prim.Native.Nat.{ℕ, zero, suc, ◌+◌, ◌-◌, ◌<◌}
 use native.Mathlib.Omega.{arith}
-use lib.ListN.{length, set, length-set}
-use lib.Seq.{get_or-set_other}
-use lib.Dec.{eqb, leb}
-use borrow.Author.Tests.{eqb-true, eqb-false}
+use lib.ListN.{length}
+use lib.Dec.{leb}
 use Rattle.limits.specs.Limits.{node_limit}
 use Rattle.definitions.specs.Same.{among}
 use Rattle.definitions.specs.Eliminate.{Walk, walk, walk_all, texts_of, find}
 use Rattle.node.specs.Marks.{mark_of}
 use Rattle.node.specs.Nodes.{tree}
+use Rattle.statement.specs.declared.Row.{Row}
 use Rattle.statement.specs.Rows.{root_at, sheet_from}
 use Rattle.statement.specs.Handover.{SheetHeld, Unmarked}
 use Rattle.numbers.specs.Filled.{at}
-use Rattle.classes.proofs.Parts.{part, part_length}
 use Rattle.share.specs.Sharing.{Noted, Walked, NodesMarked, Shares}
-use Rattle.share.proofs.Unused.{at_set, unused_most}
+use Rattle.share.proofs.Unused.{unused_most}
 use Rattle.share.proofs.TextsTwice.{texts_twice}
 
 abbrev unmet : Walk
 unmet = record { met = []; texts = [] }
 
 -- the last of some statements is walked last
-walk_last : (ws rows : List ℕ) (j count : ℕ) (w : Walk) →
+walk_last : (ws : List ℕ) (rows : List Row) (j count : ℕ) (w : Walk) →
     walk_all (sheet_from ws rows j (count + 1)) w ≡ walk (tree ws (root_at rows (j + count))) (walk_all (sheet_from ws rows j count) w)
 unfolding walk_all sheet_from
 walk_last ws rows j zero w = let e : j + 0 ≡ j = omega arith in rw e
@@ -35,10 +33,11 @@ walk_last ws rows j (suc count) w =
     rw (e, f) (walk_last ws rows (j + 1) count (walk (tree ws (root_at rows j)) w))
 
 -- so many statements are walked
-abbrev pub SheetWalked : (ws cs rows : List ℕ) (n : ℕ) (ms tx : List ℕ) (j : ℕ) (ms' tx' : List ℕ) (k : ℕ) → Type 0
+abbrev pub SheetWalked : (ws cs : List ℕ) (rows : List Row) (n : ℕ) (ms tx : List ℕ) (j : ℕ) (ms' tx' : List ℕ) (k : ℕ) →
+    Type 0
 SheetWalked ws cs rows n ms tx j ms' tx' k = Walked ws cs n (walk_all (sheet_from ws rows 0 j)) ms tx 0 ms' tx' k
 
-pub walked_none : {ws cs : List ℕ} (rows : List ℕ) {n : ℕ} {ms tx : List ℕ} → Unmarked ms → length tx ≡ node_limit →
+pub walked_none : {ws cs : List ℕ} (rows : List Row) {n : ℕ} {ms tx : List ℕ} → Unmarked ms → length tx ≡ node_limit →
     SheetWalked ws cs rows n ms tx 0 ms tx 0
 unfolding walk_all sheet_from
 walked_none rows {n} {ms} u e =
@@ -47,7 +46,7 @@ walked_none rows {n} {ms} u e =
       noted = λ w h. h;
     }
 
-pub walked_more : {ws cs : List ℕ} (rows : List ℕ) {n : ℕ} {ms tx : List ℕ} (j : ℕ) {ms1 tx1 : List ℕ} {k1 : ℕ}
+pub walked_more : {ws cs : List ℕ} (rows : List Row) {n : ℕ} {ms tx : List ℕ} (j : ℕ) {ms1 tx1 : List ℕ} {k1 : ℕ}
     {ms2 tx2 : List ℕ} {k2 : ℕ} →
     SheetWalked ws cs rows n ms tx j ms1 tx1 k1 → Walked ws cs n (walk (tree ws (root_at rows j))) ms1 tx1 k1 ms2 tx2 k2 →
     SheetWalked ws cs rows n ms tx (j + 1) ms2 tx2 k2
@@ -71,31 +70,8 @@ start_noted ws cs n tx u =
       own = λ t h. absurd (omega arith);
     }
 
--- one node more has its mark
-pub marked_none : {cs ms : List ℕ} → length ms ≡ node_limit → NodesMarked cs ms 0 ms
-marked_none w = record { wide = w; marks = λ j h. absurd (omega arith); past = λ j h. refl }
-
-pub marked_more : {cs ms sh : List ℕ} {i c v : ℕ} → i < length sh → c ≡ at cs i → i ≤ c → v ≡ at sh c - 1 →
-    NodesMarked cs ms i sh → NodesMarked cs ms (i + 1) (set sh i v)
-marked_more {cs} {ms} {sh} {i} {c} {v} h e l f s =
-    record {
-      wide = length-set sh i v ∙ s.wide;
-      marks = more;
-      past = λ j g. get_or-set_other sh i j v 0 (λ d. omega arith) ∙ s.past j (omega arith);
-    }
-  where
-    now_marked : v ≡ at ms (at cs i) - 1
-    now_marked = f ∙ ap (λ (m : ℕ). m - 1) (s.past c l ∙ ap (at ms) e)
-
-    more : (j : ℕ) → j < i + 1 → at (set sh i v) j ≡ at ms (at cs j) - 1
-    more j g = rw (at_set sh i v j h) (go (eqb i j) refl)
-      where
-        go : (b : Bool) → eqb i j ≡ b → cond b v (at sh j) ≡ at ms (at cs j) - 1
-        go true p = now_marked ∙ ap (λ (x : ℕ). at ms (at cs x) - 1) (eqb-true i j p)
-        go false p = let d = eqb-false i j p in s.marks j (omega arith)
-
 -- all statements walked, and all nodes marked
-module _ {ws cs rows : List ℕ} {n count : ℕ} {ms tx ms' tx' sh : List ℕ} {k : ℕ} (s : SheetHeld ws rows n count)
+module _ {ws cs : List ℕ} {rows : List Row} {n count : ℕ} {ms tx ms' tx' sh : List ℕ} {k : ℕ} (s : SheetHeld ws rows n count)
     (u : Unmarked ms)
     (g : SheetWalked ws cs rows n ms tx count ms' tx' k) (m : NodesMarked cs ms' n sh) where
   noted : Noted ws cs n ms' tx' k (walk_all (sheet_from ws rows 0 count) unmet)
@@ -122,14 +98,3 @@ module _ {ws cs rows : List ℕ} {n count : ℕ} {ms tx ms' tx' sh : List ℕ} {
                   (λ t l. omega (arith, m.marks (at tx' t) (nodes t l), noted.own t (omega (arith, noted.count))));
             };
       }
-
--- either pair of arrays, as far as there are nodes
-module _ {ws rows : List ℕ} {n count : ℕ} (cs : List ℕ) (long : n ≤ length cs) where
-  pub parts_held : (es : List ℕ) {sh : List ℕ} (tx : List ℕ) → n ≤ length es →
-      SheetHeld ws rows n count × Unmarked sh × (length tx ≡ node_limit) →
-      SheetHeld ws rows (length (part n cs)) count × (length (part n es) ≡ length (part n cs)) × Unmarked sh
-      × (length tx ≡ node_limit)
-  parts_held es tx h p = rw (part_length n cs long) (p.0, part_length n es h, p.1, p.2)
-
-  pub part_shares : {sh tx : List ℕ} {k : ℕ} → Shares ws rows (length (part n cs)) count sh tx k → Shares ws rows n count sh tx k
-  part_shares s = rw (part_length n cs long) at s

@@ -20,6 +20,7 @@ use Rattle.node.specs.Marks.{mark_of}
 use Rattle.node.specs.Nodes.{node_at, end_at, node_tree, tree, Lies}
 use Rattle.node.specs.Views.{zeros}
 use Rattle.node.proofs.Nodes.{below_or, equal_or, Side, tree_node, laid_induction}
+use Rattle.statement.specs.declared.Row.{Row}
 use Rattle.statement.specs.Rows.{root_at, sheet_from}
 use Rattle.statement.specs.Handover.{SheetHeld}
 use Rattle.numbers.specs.Filled.{at}
@@ -99,7 +100,7 @@ module _ (ws : List ℕ) (c : Tree) where
         ap (copies c) e,
       )
 
-  module _ (rows : List ℕ) (n count : ℕ) (s : SheetHeld ws rows n count) where
+  module _ (rows : List Row) (n count : ℕ) (s : SheetHeld ws rows n count) where
     -- a tree's nodes are those from its root up to its end
     tree_alike : (i : ℕ) → i < n → counted alike (end_at ws i) ≡ counted alike i + copies c (tree ws i)
     tree_alike i l =
@@ -144,7 +145,7 @@ zeros_counted ms (suc n) =
     (λ e. rw e (omega (arith, zeros_counted ms n)))
     (λ d. rw (ne_eqb (at ms n) 0 d) (omega (arith, zeros_counted ms n)))
 
-module _ {ws rows : List ℕ} {n count : ℕ} (s : SheetHeld ws rows n count) where
+module _ {ws : List ℕ} {rows : List Row} {n count : ℕ} (s : SheetHeld ws rows n count) where
   abbrev texts : List Tree
   texts = texts_of true (sheet_from ws rows 0 count)
 

@@ -1,10 +1,6 @@
 -- After i turns i nodes have their marks, and the later marks are as they were.
-use Rattle.std.proofs.Common.{◌-◌, ◌≤◌, length}
 use Rattle.share.specs.Sharing.{NodesMarked}
 use Rattle.share.proofs.settle.Given as goal
 
 abbrev pub invariant-loop-i : goal.invariant-loop-i
-invariant-loop-i l = (l.i ≤ length l.cs) × NodesMarked l.cs l.initial.ms l.i l.ms
-
-abbrev pub decreases-loop-i : goal.decreases-loop-i
-decreases-loop-i l = length l.cs - l.i
+invariant-loop-i l = NodesMarked l.cs l.initial.ms l.i l.ms
