@@ -15,12 +15,12 @@ use Rattle.limits.specs.Limits.{ops_per_node}
 use Rattle.operation.specs.Codes.{recip_code}
 use Rattle.operation.specs.declared.Modulus.{Modulus}
 use Rattle.operation.specs.declared.Modulus.TheVariants.{Without, Under}
-use Rattle.words.specs.Pushed.{words_end}
 use Rattle.definitions.specs.Operations.{Op, op_uni, Temp}
 use Rattle.definitions.specs.Emit.{product_ops, power_ops}
 use Rattle.definitions.specs.Power.{signed_of, closing, higher, digit_ops, gather_ops, square_ops, positive_ops}
 use Rattle.definitions.proofs.PowerDigits.{products_few}
-use Rattle.emitters.specs.Emitted.{Emitted, AllEmitted, Room}
+use Rattle.emitters.specs.Emitted.{words_end, Emitted, AllEmitted, Room}
+use Rattle.emitters.specs.declared.Output.{Output}
 use Rattle.emitters.proofs.Emitting.{emitted_as}
 use Rattle.emitters.proofs.Powers.{positive_length}
 use Rattle.emitters.proofs.Sign.{signed_size, handed}
@@ -85,6 +85,6 @@ module _ (m : Modulus) (stable : Bool) {p : ℤ} (w d s : ℕ) (small : mag p < 
   pub power_room : (at : ℕ) → at + 6 * ops_per_node ≤ words_end → Room (power_ops m stable (handed p) d s) at
   power_room at room = omega (arith, handed_few)
 
-  pub power_emitted : {at next : ℕ} {out out' : List ℕ} → AllEmitted (power_ops m stable (handed p) d s) at next out out'
-      → Emitted (power_ops m stable (signed_of w) d s) ops_per_node at next out out'
+  pub power_emitted : {old new : Output} → AllEmitted (power_ops m stable (handed p) d s) old new
+      → Emitted (power_ops m stable (signed_of w) d s) ops_per_node old new
   power_emitted x = emitted_as handed_few same_ops x

@@ -20,6 +20,7 @@ use Rattle.definitions.specs.Emit.{product_ops, power_ops}
 use Rattle.definitions.specs.Power.{digits, closing, higher, digit_ops, gather_ops, square_ops, positive_ops}
 use Rattle.definitions.proofs.PowerDigits.{digits_zero, digits_step}
 use Rattle.emitters.specs.Emitted.{Emitted, AllEmitted}
+use Rattle.emitters.specs.declared.Output.{Output}
 use Rattle.emitters.proofs.Emitting.{all_then}
 use Rattle.emitters.proofs.Sign.{handed, above, below}
 
@@ -40,14 +41,13 @@ module _ (times : (d s1 s2 : ℕ) → List Op) where
   gather_end d s n h = let e : n ≡ 0 = omega arith in rw (e, digits_zero)
 
   -- and of squarings: those of one, and those of the others
-  pub square_step : (d n : ℕ) → 0 < n → square_ops times d n ≡ times d d d ++ square_ops times d (n - 1)
+  pub square_step : (d t k : ℕ) → k < t → square_ops times d (t - k) ≡ times d d d ++ square_ops times d (t - (k + 1))
   unfolding square_ops
-  square_step d zero h = absurd (omega arith)
-  square_step d (suc n) h = let e : suc n - 1 ≡ n = omega arith in rw e
+  square_step d t k h = let e : t - k ≡ suc (t - (k + 1)) = omega arith in rw e
 
-  pub square_end : (d n : ℕ) → n ≤ 0 → square_ops times d n ≡ []
+  pub square_end : (d t k : ℕ) → t ≤ k → square_ops times d (t - k) ≡ []
   unfolding square_ops
-  square_end d n h = let e : n ≡ 0 = omega arith in rw e
+  square_end d t k h = let e : t - k ≡ 0 = omega arith in rw e
 
   -- those of a positive power: the move, the digits, the closing squarings
   pub positive_length : (size d s : ℕ)
@@ -55,11 +55,9 @@ module _ (times : (d s1 s2 : ℕ) → List Op) where
   unfolding positive_ops
   positive_length size d s = omega (arith, length-append (gather_ops times d s (higher size)) (square_ops times d (closing size)))
 
-  pub positive_emitted : (size d s : ℕ) {m n k at moved above next : ℕ} {out out₁ out₂ out₃ : List ℕ}
-      → Emitted (op_move d s ∷ []) m at moved out out₁
-      → Emitted (gather_ops times d s (higher size)) n moved above out₁ out₂
-      → Emitted (square_ops times d (closing size)) k above next out₂ out₃
-      → AllEmitted (positive_ops times size d s) at next out out₃
+  pub positive_emitted : (size d s : ℕ) {m n k : ℕ} {out out₁ out₂ out₃ : Output} → Emitted (op_move d s ∷ []) m out out₁
+      → Emitted (gather_ops times d s (higher size)) n out₁ out₂ → Emitted (square_ops times d (closing size)) k out₂ out₃
+      → AllEmitted (positive_ops times size d s) out out₃
   unfolding positive_ops
   positive_emitted size d s move digits squares = all_then move (all_then digits squares)
 

@@ -1,15 +1,15 @@
 -- Signed numbers of 32 bits: the number that a word stands for, its sign and its size. Assumes nothing.
-use Prim.Native.Nat.{ℕ, suc, ◌+◌, ◌-◌, ◌^◌, ◌<◌, ◌≤◌}
+use Prim.Native.Nat.{ℕ, suc, ◌-◌, ◌^◌, ◌<◌, ◌≤◌}
 use mathlib.Core.Path.{◌≡◌, refl, sym, ap}
 use mathlib.Core.Bool.{Bool, true, false, cond}
 use native.Mathlib.Omega.{arith}
 use borrow.Author.Tests.{ltb-true, ltb-false}
-use lib.Dec.{T, ltb, leb-zero}
+use lib.Dec.{ltb}
 use lib.IntN.{ℤ, pos, negsuc, nat_abs}
-use lib.Signed.{le_z, lt_z, non_neg}
+use lib.Signed.{lt_z}
 use mir.Syntax.{w32}
-use mir.Val.{Fits, SFits, to_z, of_z, sel}
-use mir.ValLaws.{to_z-of_z, to_z_pos}
+use mir.Val.{SFits, to_z, of_z, sel}
+use mir.ValLaws.{to_z-of_z}
 use Rattle.definitions.specs.Power.{signed_of}
 
 -- what the machine reads from a word is the number that the word stands for
@@ -33,29 +33,6 @@ signed_size w = go (ltb w (2 ^ 31)) refl
 -- a number as it is handed on: read back from its word
 abbrev pub handed : ℤ → ℤ
 handed p = to_z w32 (of_z w32 p)
-
--- one that is not below 0 is its own size
-natural : (p : ℤ) → SFits w32 p → le_z (pos 0) p ≡ true → T (non_neg p) × Fits w32 (nat_abs p)
-natural (pos n) fits e = (tt, record { fits = omega (arith, fits.sfits) })
-natural (negsuc n) fits e = let no : ◌≡◌ {A = ℕ} 0 1 = cc in absurd (omega arith)
-
-pub not_below : (p : ℤ) → SFits w32 p → le_z (pos 0) (handed p) ≡ true → T (non_neg (handed p)) × Fits w32 (nat_abs (handed p))
-not_below p fits e = rw (to_z-of_z w32 p fits) (natural p fits (rw (to_z-of_z w32 p fits) at e))
-
--- of one below 0 the word turned over is one less than the size
-pub record Turned (p : ℤ) (turned : ℕ) : Type 0 where
-  pub read : to_z w32 turned ≡ pos turned
-  pub size : turned + 1 ≡ nat_abs p
-  pub small : turned < 2 ^ 31
-
-turned_over : (p : ℤ) → SFits w32 p → le_z (pos 0) p ≡ false → Turned p (4294967295 - of_z w32 p)
-turned_over (pos n) fits e = let no : ◌≡◌ {A = ℕ} 0 1 = cc (leb-zero n) in absurd (omega arith)
-turned_over (negsuc n) fits e =
-    let h : n < 2 ^ 31 = fits.sfits in
-    record { read = to_z_pos w32 (4294967295 - (2 ^ 32 - suc n)) (omega arith); size = omega arith; small = omega arith }
-
-pub below_turned : (p : ℤ) → SFits w32 p → le_z (pos 0) (handed p) ≡ false → Turned p (4294967295 - of_z w32 p)
-below_turned p fits e = turned_over p fits (rw (to_z-of_z w32 p fits) at e)
 
 -- what the tests of a power say, its size being known
 pub zero_word : (p : ℤ) → SFits w32 p → of_z w32 p ≡ 0 → p ≡ pos 0

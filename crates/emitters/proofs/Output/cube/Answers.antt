@@ -1,0 +1,7 @@
+-- x × x, then x × that.
+use Rattle.std.proofs.Common.{arith}
+use Rattle.emitters.proofs.Emitting.{emitted_then}
+use Rattle.emitters.proofs.Output.cube.Goals as goal
+
+pub returns : goal.returns
+returns c = emitted_then (omega arith) c.bi.ensures c.bi-2.ensures

@@ -1,0 +1,8 @@
+-- Its words are those of the operation, the place's last.
+use Rattle.std.proofs.Common.{}
+use Rattle.definitions.specs.Operations.{op_words}
+use Rattle.emitters.proofs.Output.load_var.Goals as goal
+
+pub returns : goal.returns
+unfolding op_words
+returns c = c.put.ensures _ (cc)

@@ -1,7 +1,0 @@
--- x × x, then x × that.
-use Rattle.std.proofs.Common.{arith}
-use Rattle.emitters.proofs.Emitting.{emitted_then}
-use Rattle.emitters.proofs.cube.Goals as goal
-
-pub returns : goal.returns
-returns c = emitted_then (omega arith) c.bi-next.ensures c.bi.ensures

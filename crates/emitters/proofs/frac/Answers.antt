@@ -1,7 +1,0 @@
--- The floor, then x minus that.
-use Rattle.std.proofs.Common.{arith}
-use Rattle.emitters.proofs.Emitting.{emitted_then}
-use Rattle.emitters.proofs.frac.Goals as goal
-
-pub returns : goal.returns
-returns c = emitted_then (omega arith) c.uni-next.ensures c.bi.ensures
