@@ -1,4 +1,5 @@
 -- A power has no more operations than a node may have. Assumes nothing.
+use Rattle.std.specs.Prelude.{None, Some, Option}
 use Prim.Native.Nat.{ℕ, zero, suc, ◌+◌, ◌*◌, ◌^◌, ◌<◌, ◌≤◌}
 use mathlib.Core.Path.{◌≡◌, refl, sym, ap, ◌∙◌}
 use mathlib.Core.Bool.{Bool, true, false}
@@ -13,8 +14,6 @@ use mir.Val.{hbits}
 use mir.ValLaws.{to_z-of_z}
 use Rattle.limits.specs.Limits.{ops_per_node}
 use Rattle.operation.specs.Codes.{recip_code}
-use Rattle.operation.specs.declared.Modulus.{Modulus}
-use Rattle.operation.specs.declared.Modulus.TheVariants.{Without, Under}
 use Rattle.definitions.specs.Operations.{Op, op_uni, Temp}
 use Rattle.definitions.specs.Emit.{product_ops, power_ops}
 use Rattle.definitions.specs.Power.{signed_of, closing, higher, digit_ops, gather_ops, square_ops, positive_ops}
@@ -52,29 +51,29 @@ module _ (times : (d s1 s2 : ℕ) → List Op) (each : ℕ) (times-length : (d s
       omega (arith, gather_few d s (higher size), square_length d (closing size), mul-add each digit-products (closing size))
 
 -- those of a plain product, and of one that is reduced
-plain_few : (size d s : ℕ) → 0 < size → size ≤ 2 ^ 31 → length (positive_ops (product_ops Without) size d s) ≤ 61
-plain_few = positive_few (product_ops Without) 1 (λ d s1 s2. refl)
+plain_few : (size d s : ℕ) → 0 < size → size ≤ 2 ^ 31 → length (positive_ops (product_ops None) size d s) ≤ 61
+plain_few = positive_few (product_ops None) 1 (λ d s1 s2. refl)
 
-reduced_few : (r size d s : ℕ) → 0 < size → size ≤ 2 ^ 31 → length (positive_ops (product_ops (Under r)) size d s) ≤ ops_per_node
-reduced_few r = positive_few (product_ops (Under r)) 5 (λ d s1 s2. refl)
+reduced_few : (r size d s : ℕ) → 0 < size → size ≤ 2 ^ 31 → length (positive_ops (product_ops (Some r)) size d s) ≤ ops_per_node
+reduced_few r = positive_few (product_ops (Some r)) 5 (λ d s1 s2. refl)
 
 -- a power has those of its size, and a negative one its reciprocal
-sized_few : (m : Modulus) (stable : Bool) (p : ℤ) (d s : ℕ) → nat_abs p ≤ 2 ^ 31 → length (power_ops m stable p d s) ≤ ops_per_node
+sized_few : (m : Option ℕ) (stable : Bool) (p : ℤ) (d s : ℕ) → nat_abs p ≤ 2 ^ 31 → length (power_ops m stable p d s) ≤ ops_per_node
 unfolding power_ops
 sized_few m stable (pos zero) d s h = omega arith
-sized_few Without stable (pos (suc n)) d s h = omega (arith, plain_few (suc n) d s (omega arith) h)
-sized_few (Under r) stable (pos (suc n)) d s h = reduced_few r (suc n) d s (omega arith) h
+sized_few None stable (pos (suc n)) d s h = omega (arith, plain_few (suc n) d s (omega arith) h)
+sized_few (Some r) stable (pos (suc n)) d s h = reduced_few r (suc n) d s (omega arith) h
 sized_few m true (negsuc n) d s h = omega (arith, plain_few (suc n) d d (omega arith) h)
 sized_few m false (negsuc n) d s h =
-    let joined = length-append (positive_ops (product_ops Without) (suc n) d s) (op_uni recip_code d d ∷ []) in
+    let joined = length-append (positive_ops (product_ops None) (suc n) d s) (op_uni recip_code d d ∷ []) in
     omega (arith, plain_few (suc n) d s (omega arith) h)
 
 -- and no power that a word stands for is larger
-power_few : (m : Modulus) (stable : Bool) (w d s : ℕ) → length (power_ops m stable (signed_of w) d s) ≤ ops_per_node
+power_few : (m : Option ℕ) (stable : Bool) (w d s : ℕ) → length (power_ops m stable (signed_of w) d s) ≤ ops_per_node
 power_few m stable w d s = sized_few m stable (signed_of w) d s (signed_size w)
 
 -- read from its word and handed on, it has the same operations
-module _ (m : Modulus) (stable : Bool) {p : ℤ} (w d s : ℕ) (small : mag p < 2 ^ hbits w32) (read : p ≡ signed_of w) where
+module _ (m : Option ℕ) (stable : Bool) {p : ℤ} (w d s : ℕ) (small : mag p < 2 ^ hbits w32) (read : p ≡ signed_of w) where
   same_ops : power_ops m stable (signed_of w) d s ≡ power_ops m stable (handed p) d s
   same_ops = ap (λ (p : ℤ). power_ops m stable p d s) (sym (to_z-of_z w32 p (record { sfits = small }) ∙ read))
 

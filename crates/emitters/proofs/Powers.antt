@@ -1,4 +1,5 @@
 -- The operations of a power as they are emitted: by its sign, digit by digit, squaring by squaring. Assumes nothing.
+use Rattle.std.specs.Prelude.{None, Some, Option}
 use Prim.Native.Nat.{ℕ, zero, suc, ◌+◌, ◌-◌, ◌/◌, ◌%◌, ◌<◌, ◌≤◌}
 use mathlib.Core.Path.{◌≡◌, refl, sym, ap, ◌∙◌}
 use mathlib.Core.Bool.{Bool, true, false}
@@ -13,8 +14,6 @@ use mir.Syntax.{w32}
 use mir.Val.{SFits, of_z}
 use mir.ValLaws.{to_z-of_z}
 use Rattle.operation.specs.Codes.{divide_code, recip_code}
-use Rattle.operation.specs.declared.Modulus.{Modulus}
-use Rattle.operation.specs.declared.Modulus.TheVariants.{Without, Under}
 use Rattle.definitions.specs.Operations.{Op, op_move, op_uni, op_bi, Temp}
 use Rattle.definitions.specs.Emit.{product_ops, power_ops}
 use Rattle.definitions.specs.Power.{digits, closing, higher, digit_ops, gather_ops, square_ops, positive_ops}
@@ -25,9 +24,9 @@ use Rattle.emitters.proofs.Emitting.{all_then}
 use Rattle.emitters.proofs.Sign.{handed, above, below}
 
 -- a product has an operation at least
-pub product_some : (m : Modulus) (d s1 s2 : ℕ) → 0 < length (product_ops m d s1 s2)
-product_some Without d s1 s2 = omega arith
-product_some (Under r) d s1 s2 = omega arith
+pub product_some : (m : Option ℕ) (d s1 s2 : ℕ) → 0 < length (product_ops m d s1 s2)
+product_some None d s1 s2 = omega arith
+product_some (Some r) d s1 s2 = omega arith
 
 module _ (times : (d s1 s2 : ℕ) → List Op) where
   -- the operations of a number's digits: those of its lowest, and those of its half's
@@ -61,7 +60,7 @@ module _ (times : (d s1 s2 : ℕ) → List Op) where
   unfolding positive_ops
   positive_emitted size d s move digits squares = all_then move (all_then digits squares)
 
-module _ (m : Modulus) (d s : ℕ) {p : ℤ} where
+module _ (m : Option ℕ) (d s : ℕ) {p : ℤ} where
   -- power 0
   pub power_zero : (stable : Bool) → p ≡ pos 0 → power_ops m stable p d s ≡ op_bi divide_code d d d ∷ []
   unfolding power_ops
@@ -76,42 +75,42 @@ module _ (m : Modulus) (d s : ℕ) {p : ℤ} where
 
   -- a power below 0, with the reciprocal first or last
   pub reciprocal_first : {stable : Bool} (size : ℕ) → stable ≡ true → (0 < size) × (p ≡ negsuc (size - 1))
-      → power_ops m stable p d s ≡ op_uni recip_code d s ∷ positive_ops (product_ops Without) size d d
+      → power_ops m stable p d s ≡ op_uni recip_code d s ∷ positive_ops (product_ops None) size d d
   unfolding power_ops
   reciprocal_first zero b (h, e) = absurd (omega arith)
   reciprocal_first (suc n) b (h, e) = let less : suc n - 1 ≡ n = omega arith in rw (b, e, less)
 
   pub reciprocal_last : {stable : Bool} (size : ℕ) → stable ≡ false → (0 < size) × (p ≡ negsuc (size - 1))
-      → power_ops m stable p d s ≡ positive_ops (product_ops Without) size d s ++ (op_uni recip_code d d ∷ [])
+      → power_ops m stable p d s ≡ positive_ops (product_ops None) size d s ++ (op_uni recip_code d d ∷ [])
   unfolding power_ops
   reciprocal_last zero b (h, e) = absurd (omega arith)
   reciprocal_last (suc n) b (h, e) = let less : suc n - 1 ≡ n = omega arith in rw (b, e, less)
 
 -- a power that is not above 0 is not reduced
-plain : (m : Modulus) (stable : Bool) (p : ℤ) (d s : ℕ) → lt_z (pos 0) p ≡ false
-    → power_ops m stable p d s ≡ power_ops Without stable p d s
+plain : (m : Option ℕ) (stable : Bool) (p : ℤ) (d s : ℕ) → lt_z (pos 0) p ≡ false
+    → power_ops m stable p d s ≡ power_ops None stable p d s
 unfolding power_ops
 plain m stable (pos zero) d s e = refl
 plain m stable (pos (suc n)) d s e = absurd (omega (arith, ltb-false 0 (suc n) e))
 plain m true (negsuc n) d s e = refl
 plain m false (negsuc n) d s e = refl
 
-pub not_reduced : (m : Modulus) (stable : Bool) (p : ℤ) (d s : ℕ) → SFits w32 p → lt_z (pos 0) (handed p) ≡ false
-    → power_ops m stable p d s ≡ power_ops Without stable (handed p) d s
+pub not_reduced : (m : Option ℕ) (stable : Bool) (p : ℤ) (d s : ℕ) → SFits w32 p → lt_z (pos 0) (handed p) ≡ false
+    → power_ops m stable p d s ≡ power_ops None stable (handed p) d s
 not_reduced m stable p d s fits e =
     ap (λ (p : ℤ). power_ops m stable p d s) (sym (to_z-of_z w32 p fits)) ∙ plain m stable (handed p) d s e
 
 -- of a power of a known size, tested for its sign: its size is above 0, and its operations are those of a positive power
-module _ (m : Modulus) (stable : Bool) (p : ℤ) {size : ℕ} (d s : ℕ) (fits : SFits w32 p) (known : size ≡ nat_abs (handed p)) where
+module _ (m : Option ℕ) (stable : Bool) (p : ℤ) {size : ℕ} (d s : ℕ) (fits : SFits w32 p) (known : size ≡ nat_abs (handed p)) where
   pub above_ops : lt_z (pos 0) (handed p) ≡ true
       → (0 < size) × (power_ops m stable p d s ≡ positive_ops (product_ops m) size d s)
   above_ops e = let sign = above p fits known e in (sign.0, power_above m d s stable size sign)
 
   -- below 0, its reciprocal comes first or last
   pub first_ops : (of_z w32 p ≡ 0 → ⊥) → lt_z (pos 0) (handed p) ≡ false → stable ≡ true
-      → (0 < size) × (power_ops m stable p d s ≡ op_uni recip_code d s ∷ positive_ops (product_ops Without) size d d)
+      → (0 < size) × (power_ops m stable p d s ≡ op_uni recip_code d s ∷ positive_ops (product_ops None) size d d)
   first_ops n e b = let sign = below p fits known n e in (sign.0, reciprocal_first m d s size b sign)
 
   pub last_ops : (of_z w32 p ≡ 0 → ⊥) → lt_z (pos 0) (handed p) ≡ false → stable ≡ false
-      → (0 < size) × (power_ops m stable p d s ≡ positive_ops (product_ops Without) size d s ++ (op_uni recip_code d d ∷ []))
+      → (0 < size) × (power_ops m stable p d s ≡ positive_ops (product_ops None) size d s ++ (op_uni recip_code d d ∷ []))
   last_ops n e b = let sign = below p fits known n e in (sign.0, reciprocal_last m d s size b sign)

@@ -1,8 +1,8 @@
--- Its words are those of the operation.
-use Rattle.std.proofs.Common.{refl}
+-- Its words are those of the operation, the code's second.
+use Rattle.std.proofs.Common.{}
 use Rattle.definitions.specs.Operations.{op_words}
 use Rattle.emitters.proofs.Output.uni.Goals as goal
 
 pub returns : goal.returns
 unfolding op_words
-returns c = c.put.ensures _ refl
+returns c = c.put.ensures _ (cc)
