@@ -1,6 +1,6 @@
 -- The levels that are left fall at each turn of the cycle.
 use Rattle.std.proofs.Common.{◌+◌, ◌*◌}
-use Rattle.evaluator.proofs.+alloc_compile_compile_binary_compile_node.Given as goal
+use Rattle.evaluator.proofs.Evaluator.+alloc_compile_compile_binary_compile_node.Given as goal
 
 abbrev pub decreases-alloc : goal.decreases-alloc
 decreases-alloc l = 4 * l.to.depth + 2
