@@ -1,4 +1,5 @@
--- The tree's operations, then the save.
+-- The value is in the register of the tree's number.
+use Rattle.std.proofs.Common.{}
 use Rattle.header.specs.Settings.{temporary_of}
 use Rattle.mir.proofs.Statements.{assign_emitted}
 use Rattle.mir.proofs.assign.Goals as goal
@@ -6,4 +7,5 @@ use Rattle.mir.proofs.assign.Goals as goal
 pub returns : goal.returns
 returns c =
     let a = c.args in
-    assign_emitted a.h a.p _ (c.requires.0.bare.number (temporary_of a.h)) c.tree_ops-next.ensures c.save.ensures
+    let number = c.requires.0.bare.number (temporary_of a.trees.now.header) in
+    assign_emitted a.trees.now a.p a.i number c.save_tree.ensures

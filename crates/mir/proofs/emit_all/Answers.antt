@@ -1,16 +1,12 @@
--- Row by row, each is listed after those before it.
-use Rattle.std.proofs.Common.{rules}
-use Rattle.mir.proofs.Listing.{rows_emitted_none, rows_emitted_more}
+-- Row by row, each is written after those before it.
+use Rattle.std.proofs.Common.{}
+use Rattle.mir.proofs.Listing.{rows_written_none, rows_written_more}
 use Rattle.mir.proofs.emit_all.Goals as goal
 
-pub loop-k-init : goal.loop-k-init
-loop-k-init c =
-    let a = c.args in
-    (search rules, rows_emitted_none a.h a.ws.now a.marks.now a.rows.now a.out.now)
+pub loop-row-init : goal.loop-row-init
+loop-row-init c = rows_written_none c.args.trees.now c.args.out.now
 
-pub loop-k-preserved : goal.loop-k-preserved
-loop-k-preserved c =
-    let a = c.args in
-    let before = c.loop-k.invariant.1 in
-    let more = rows_emitted_more a.h a.ws.now a.marks.now a.rows.now c.loop-k.k in
-    (search rules, more before c.row_at-row.ensures c.emit_rest-at.ensures)
+pub loop-row-preserved : goal.loop-row-preserved
+loop-row-preserved c =
+    let rows = c.args.rows.now in
+    rows_written_more c.args.trees.now rows c.loop-row.row-index c.loop-row-test.true c.loop-row.invariant c.emit_rest-at.ensures
