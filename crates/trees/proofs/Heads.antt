@@ -3,7 +3,7 @@ use Prim.Native.Nat.{ℕ, zero, suc, ◌+◌, ◌-◌, ◌<◌}
 use native.Mathlib.Omega.{arith}
 use mathlib.Core.Bool.{Bool, true, false, cond, ◌&&◌}
 use mathlib.Core.List.{List, [], ◌∷◌}
-use mathlib.Core.Path.{◌≡◌, refl, sym, ◌∙◌}
+use mathlib.Core.Path.{◌≡◌, refl, sym, subst}
 use lib.ListN.{length}
 use lib.Dec.{ltb, leb}
 use borrow.Author.Tests.{lt-ltb, ltb-true}
@@ -17,10 +17,10 @@ use Rattle.node.specs.declared.Node.{Node}
 use Rattle.node.specs.declared.Node.TheVariants.{Const, Var, Unary, Binary}
 use Rattle.node.specs.Nodes.{one_tag, one_word, two_tag, two_word, layout}
 use Rattle.places.specs.declared.Head.{Head}
-use Rattle.places.specs.declared.Head.TheVariants.{Leaf, Over1, Over2, Refused}
+use Rattle.places.specs.declared.Head.TheVariants.{Leaf, Over1, Over2}
 use Rattle.places.specs.Heads.{head_of, head_at, head_tree}
 use Rattle.places.proofs.Heads.{by_test, tag_head_lem}
-use Rattle.trees.specs.Reads.{within_limits, node_head}
+use Rattle.trees.specs.Reads.{within_limits, head_within}
 
 -- what is known of a node that was read, by its head: with no side, over one tree, over two
 pub record Head0 (q : Read Node) (tag word end : ℕ) : Type 0 where
@@ -42,13 +42,16 @@ pub record Head2 (q : Read Node) (tag word at : ℕ) : Type 0 where
   pub tag_is : tag ≡ two_tag over
   pub word_is : word ≡ two_word over
 
-abbrev pub Says : Read Node → Head → Type 0
-Says q (Leaf tag word end) = Head0 q tag word end
-Says q (Over1 tag word at) = Head1 q tag word at
-Says q (Over2 tag word at) = Head2 q tag word at
-Says q (Refused k) = q ≡ bad k
+abbrev pub Says : Read Node → Head → (end : ℕ) → Type 0
+Says q (Leaf tag word) end = Head0 q tag word end
+Says q (Over1 tag word) end = Head1 q tag word end
+Says q (Over2 tag word) end = Head2 q tag word end
 
-says : (q : Read Node) → Says q (head_of q)
+abbrev SaysRead : Read Node → Read Head → Type 0
+SaysRead q (got h end) = Says q h end
+SaysRead q (bad k) = q ≡ bad k
+
+says : (q : Read Node) → SaysRead q (head_of q)
 unfolding weight layout
 says (got (Const k) end) = record { leaf = constant k; single = refl; read = λ tree n. refl; laid = λ n. refl }
 says (got (Var p) end) = record { leaf = variable p; single = refl; read = λ tree n. refl; laid = λ n. refl }
@@ -56,22 +59,23 @@ says (got (Unary o) at) = record { over = o; read = refl; tag_is = refl; word_is
 says (got (Binary o right) at) = record { over = o; side = right; read = refl; tag_is = refl; word_is = refl }
 says (bad k) = refl
 
-pub head_says : (q : Read Node) {h g : Head} → h ≡ head_of q → h ≡ g → Says q g
-head_says q e f = rw (sym e ∙ f) at (says q)
+pub head_says : (q : Read Node) {h : Head} {end : ℕ} → got h end ≡ head_of q → Says q h end
+head_says q e = rw (sym e) at (says q)
 
--- a head that is not refused
-abbrev pub HeadKept : Head → Type 0
-HeadKept (Leaf tag word end) = Unit {0}
-HeadKept (Over1 tag word end) = Unit {0}
-HeadKept (Over2 tag word end) = Unit {0}
-HeadKept (Refused k) = ⊥
+pub head_refused : (q : Read Node) {k : ℕ} → bad k ≡ head_of q → q ≡ bad k
+head_refused q e = rw (sym e) at (says q)
+
+-- what was read, and not refused
+abbrev IsGot : Read Head → Type 0
+IsGot (got h end) = Unit {0}
+IsGot (bad k) = ⊥
 
 -- the second of three tests has passed
-kept_passes : (a b c : Bool) (q : Read Node) → HeadKept (head_of (cond a (cond b q (cond c (bad 6) (bad 5))) (bad 5))) → b ≡ true
-kept_passes true true c q k = refl
-kept_passes true false true q k = absurd k
-kept_passes true false false q k = absurd k
-kept_passes false b c q k = absurd k
+got_passes : (a b c : Bool) (q : Read Node) → IsGot (head_of (cond a (cond b q (cond c (bad 6) (bad 5))) (bad 5))) → b ≡ true
+got_passes true true c q k = refl
+got_passes true false true q k = absurd k
+got_passes true false false q k = absurd k
+got_passes false b c q k = absurd k
 
 module _ (stable : Bool) (first : ℕ) (s : List ℕ) (at n left : ℕ) where
   abbrev below : ℕ → TreeReader
@@ -87,11 +91,11 @@ module _ (stable : Bool) (first : ℕ) (s : List ℕ) (at n left : ℕ) where
   limits_last tree true false q x e = refl
   limits_last tree false false q x e = refl
 
-  pub node_tree_lem : tree_at stable first left s at n ≡ head_tree (below (left - 1)) (node_head stable first left s at n) n
+  pub node_tree_lem : tree_at stable first left s at n ≡ head_tree (below (left - 1)) (head_within stable first left s at n) n
   unfolding tree_at
   node_tree_lem = go left
     where
-      go : (d : ℕ) → tree_at stable first d s at n ≡ head_tree (below (d - 1)) (node_head stable first d s at n) n
+      go : (d : ℕ) → tree_at stable first d s at n ≡ head_tree (below (d - 1)) (head_within stable first d s at n) n
       go zero =
           by_test (below 0) stable first s at n (ltb at (length s)) _ _ (by_test (below 0) stable first s at n known _ _ refl refl) refl
       go (suc d) =
@@ -100,9 +104,9 @@ module _ (stable : Bool) (first : ℕ) (s : List ℕ) (at n left : ℕ) where
           (by_test (below d) stable first s at n (ltb at (length s)) _ _
           (limits_last (below d) known (ltb n node_limit) _ _ (tag_head_lem (below d) stable first s at n)) refl)
 
-  module _ {h g : Head} (e : h ≡ head_of (node_head stable first left s at n)) (f : h ≡ g) where
-    pub kept_within : HeadKept g → (0 < left) × (n < node_limit)
-    kept_within k =
-        let passed = kept_passes (ltb at (length s)) (within_limits left n) known (head_at stable first s at) (rw (sym f ∙ e) at k) in
-        let both = and_both _ _ passed in
-        (ltb-true _ _ both.0, ltb-true _ _ both.1)
+  pub got_within : {h : Head} {end : ℕ} → got h end ≡ head_of (head_within stable first left s at n)
+      → (0 < left) × (n < node_limit)
+  got_within e =
+      let passed = got_passes (ltb at (length s)) (within_limits left n) known (head_at stable first s at) (subst IsGot e tt) in
+      let both = and_both _ _ passed in
+      (ltb-true _ _ both.0, ltb-true _ _ both.1)

@@ -1,34 +1,29 @@
 -- Place, tree by the header's settings, and no byte left over.
-use Rattle.std.proofs.Common.{refl, ap₂, eq-eqb, ne_eqb}
-use Rattle.definitions.specs.Sheet.{place_at, statement_at}
-use Rattle.places.proofs.Places.{place_was_got, place_was_bad}
-use Rattle.trees.specs.declared.ReadStatement.TheVariants as S
-use Rattle.trees.proofs.Trees.{tree_was_got, tree_was_bad}
+use Rattle.std.proofs.Common.{rules, ℕ, Ok, refl, ap, eq-eqb, ne_eqb}
+use Rattle.definitions.specs.Sheet.{statement_at}
+use Rattle.refusal.proofs.Passing.{passed_on}
+use Rattle.trees.proofs.Trees.{tree_was_got, tree_was_refused}
 use Rattle.trees.proofs.read_statement.Goals as goal
 
-pub returns-then-end-s : goal.returns-then-end-s
+pub returns-in_err-place : goal.returns-in_err-place
 unfolding statement_at
-returns-then-end-s c =
-    let place = place_was_got _ c.read_place-p.ensures c.in-Place.is in
-    let by_header = rw (c.settings_of.ensures.0, c.settings_of.ensures.1) at c.read_tree-t.ensures in
-    let tree = tree_was_got _ _ _ _ by_header c.in-Tree.is in
-    rw (place.read, tree.read, eq-eqb _ _ c.if-end-s.true) (ap₂ S.Statement place.word tree.count, refl, tree.words)
+returns-in_err-place c = rw (passed_on c.from_residual.ensures, ← c.in_err-place.ensures) refl
 
-pub returns-else-end-s : goal.returns-else-end-s
+pub returns-in_err-read_tree : goal.returns-in_err-read_tree
 unfolding statement_at
-returns-else-end-s c =
-    let place = place_was_got _ c.read_place-p.ensures c.in-Place.is in
-    let by_header = rw (c.settings_of.ensures.0, c.settings_of.ensures.1) at c.read_tree-t.ensures in
-    let tree = tree_was_got _ _ _ _ by_header c.in-Tree.is in
-    rw (place.read, tree.read, ne_eqb _ _ c.if-end-s.false) refl
+returns-in_err-read_tree c =
+    let refused = tree_was_refused _ _ _ _ c.in_err-read_tree.ensures.read in
+    rw (passed_on c.from_residual-in_err-read_tree.ensures, ← c.in_ok-place.ensures, refused) refl
 
-pub returns-in-Refused-t : goal.returns-in-Refused-t
+pub returns-then-parser-s : goal.returns-then-parser-s
 unfolding statement_at
-returns-in-Refused-t c =
-    let place = place_was_got _ c.read_place-p.ensures c.in-Place.is in
-    let by_header = rw (c.settings_of.ensures.0, c.settings_of.ensures.1) at c.read_tree-t.ensures in
-    rw (place.read, tree_was_bad _ _ _ _ by_header c.in-Refused-t.is) refl
+returns-then-parser-s c =
+    let tree = tree_was_got _ _ _ c.in_ok-read_tree.ensures.read in
+    rw (← c.in_ok-place.ensures, tree.read, ne_eqb _ _ c.if-parser-s.true) refl
 
-pub returns-in-Refused : goal.returns-in-Refused
+pub returns : goal.returns
 unfolding statement_at
-returns-in-Refused c = rw (place_was_bad (place_at 2 _ _ 0) c.read_place-p.ensures c.in-Refused.is) refl
+returns c =
+    let tree = tree_was_got _ _ _ c.in_ok-read_tree.ensures.read in
+    rw (← c.in_ok-place.ensures, tree.read, eq-eqb _ _ c.if-parser-s.false)
+    (ap (λ (m : ℕ). Ok (c.in_ok-place.place, m)) tree.count, refl, search (rules, tree.words))
