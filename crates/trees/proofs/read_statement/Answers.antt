@@ -15,15 +15,15 @@ returns-in_err-read_tree c =
     let refused = tree_was_refused _ _ _ _ c.in_err-read_tree.ensures.read in
     rw (passed_on c.from_residual-in_err-read_tree.ensures, ← c.in_ok-place.ensures, refused) refl
 
-pub returns-then-parser-s : goal.returns-then-parser-s
+pub returns-then-parser-bytes : goal.returns-then-parser-bytes
 unfolding statement_at
-returns-then-parser-s c =
+returns-then-parser-bytes c =
     let tree = tree_was_got _ _ _ c.in_ok-read_tree.ensures.read in
-    rw (← c.in_ok-place.ensures, tree.read, ne_eqb _ _ c.if-parser-s.true) refl
+    rw (← c.in_ok-place.ensures, tree.read, ne_eqb _ _ c.if-parser-bytes.true) refl
 
 pub returns : goal.returns
 unfolding statement_at
 returns c =
     let tree = tree_was_got _ _ _ c.in_ok-read_tree.ensures.read in
-    rw (← c.in_ok-place.ensures, tree.read, eq-eqb _ _ c.if-parser-s.false)
+    rw (← c.in_ok-place.ensures, tree.read, eq-eqb _ _ c.if-parser-bytes.false)
     (ap (λ (m : ℕ). Ok (c.in_ok-place.place, m)) tree.count, refl, search (rules, tree.words))
