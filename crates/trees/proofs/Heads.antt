@@ -19,7 +19,7 @@ use Rattle.node.specs.Nodes.{one_tag, one_word, two_tag, two_word, layout}
 use Rattle.places.specs.declared.Head.{Head}
 use Rattle.places.specs.declared.Head.TheVariants.{Leaf, Over1, Over2}
 use Rattle.places.specs.Heads.{head_of, head_at, head_tree}
-use Rattle.places.proofs.Heads.{by_test, tag_head_lem}
+use Rattle.places.proofs.Heads.{head_inside, by_test, tag_head_lem}
 use Rattle.trees.specs.Reads.{within_limits, head_within}
 
 -- what is known of a node that was read, by its head: with no side, over one tree, over two
@@ -103,6 +103,10 @@ module _ (stable : Bool) (first : ℕ) (s : List ℕ) (at n left : ℕ) where
           rw (p, lt-ltb 0 (suc d) (omega arith))
           (by_test (below d) stable first s at n (ltb at (length s)) _ _
           (limits_last (below d) known (ltb n node_limit) _ _ (tag_head_lem (below d) stable first s at n)) refl)
+
+  -- within the limits a node is what stands at its tag
+  pub node_within : 0 < left → n < node_limit → head_within stable first left s at n ≡ head_at stable first s at
+  node_within h k = rw (lt-ltb 0 left h, lt-ltb n node_limit k) (head_inside stable first s at)
 
   pub got_within : {h : Head} {end : ℕ} → got h end ≡ head_of (head_within stable first left s at n)
       → (0 < left) × (n < node_limit)

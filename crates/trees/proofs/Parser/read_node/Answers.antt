@@ -1,0 +1,9 @@
+-- Within the limits the node is that of its tag.
+use Rattle.std.proofs.Common.{arith}
+use Rattle.trees.proofs.Heads.{node_within}
+use Rattle.trees.proofs.Parser.read_node.Goals as goal
+
+pub returns : goal.returns
+returns c =
+    let p = c.args.self.now in
+    rw (node_within p.header.stable p.header.first p.bytes.now p.at p.count c.args.left (omega arith) (omega arith)) c.read_head.ensures
