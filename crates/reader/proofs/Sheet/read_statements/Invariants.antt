@@ -6,11 +6,11 @@ use Rattle.header.specs.Settings.{header_of}
 use Rattle.definitions.specs.Sheet.{pairs_from, pairs, statements_at}
 use Rattle.statement.specs.declared.Row.{Row}
 use Rattle.reader.specs.Reads.{StatementsRead}
-use Rattle.reader.proofs.read_statements.Given as goal
+use Rattle.reader.proofs.Sheet.read_statements.Given as goal
 
 abbrev pub invariant-loop-k : goal.invariant-loop-k
 invariant-loop-k l =
     (r : Result (Header × ℕ) Refusal) (ws' : List ℕ) (rows' : List Row)
-    → StatementsRead (header_of l.file) (statements_at l.file l.n (pairs_from l.file (8 + 4 * l.k) (l.header.count - l.k))) l.n l.k
+    → StatementsRead (header_of l.self.file.now) (statements_at l.self.file.now l.n (pairs_from l.self.file.now (8 + 4 * l.k) (l.self.header.count - l.k))) l.n l.k
     l.ws l.rows r ws' rows'
-    → StatementsRead (header_of l.file) (statements_at l.file 0 (pairs l.file)) 0 0 l.initial.ws l.initial.rows r ws' rows'
+    → StatementsRead (header_of l.self.file.now) (statements_at l.self.file.now 0 (pairs l.self.file.now)) 0 0 l.initial.ws l.initial.rows r ws' rows'
