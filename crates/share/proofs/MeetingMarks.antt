@@ -15,42 +15,44 @@ use Rattle.definitions.specs.Eliminate.{Walk, note}
 use Rattle.node.specs.Nodes.{tree}
 use Rattle.numbers.specs.Filled.{at}
 use Rattle.node.specs.Marks.{mark_of}
-use Rattle.share.specs.Sharing.{MeetReady, Noted, Walked}
+use Rattle.share.specs.Sharing.{WalkReady, TextsFit, Noted, Walked}
 use Rattle.share.proofs.Texts.{among_mark, mark_new, mark_kept, note_light, note_first, note_second, note_later}
 use Rattle.share.proofs.Texts.{text_kept, text_last}
 use Rattle.share.proofs.Unused.{at_set, unused_first, unused_second}
 
-module _ {ws cs : List ℕ} {n : ℕ} {ms tx : List ℕ} {i k : ℕ} (r : MeetReady ws cs n ms tx i k) where
+-- a meeting of node i, with k temporaries given
+module _ {ws cs es : List ℕ} {n : ℕ} {ms tx : List ℕ} {i k : ℕ} (ready : WalkReady ws cs es n) (fits : TextsFit n ms tx k)
+    (inside : i < n) where
   tells : (j : ℕ) → j < n → same (tree ws i) (tree ws j) ≡ eqb (at cs i) (at cs j)
-  tells j h = sym (r.classed.tells i j (omega arith) r.inside (omega arith) h)
+  tells j h = sym (ready.classed.tells i j (omega arith) inside (omega arith) h)
 
   class_below : at cs i < n
-  class_below = r.classed.below i (omega arith) r.inside
+  class_below = ready.classed.below i (omega arith) inside
 
   room : at cs i < length ms
-  room = omega (arith, class_below, r.table.few, r.fits.marks)
+  room = omega (arith, class_below, ready.table.few, fits.marks)
 
   -- a mark that is set is not past the nodes
   past_kept : (v j : ℕ) → n ≤ j → at (set ms (at cs i) v) j ≡ 0
-  past_kept v j h = get_or-set_other ms (at cs i) j v 0 (λ e. omega (arith, class_below)) ∙ r.fits.past j h
+  past_kept v j h = get_or-set_other ms (at cs i) j v 0 (λ e. omega (arith, class_below)) ∙ fits.past j h
 
   -- a class without a temporary leaves room for one
   pub room_more : at ms (at cs i) ≡ 1 → k < n
-  room_more z = omega (arith, r.fits.room, unused_second n ms (at cs i) class_below room k z)
+  room_more z = omega (arith, fits.room, unused_second n ms (at cs i) class_below room k z)
 
   stay : ((w : Walk) → Noted ws cs n ms tx k w → note (tree ws i) w ≡ w) → Walked ws cs n (note (tree ws i)) ms tx k ms tx k
-  stay e = record { fits = r.fits; noted = λ w h. rw (e w h) h }
+  stay e = record { fits = fits; noted = λ w h. rw (e w h) h }
 
   pub light : weight (tree ws i) < 5 → Walked ws cs n (note (tree ws i)) ms tx k ms tx k
   light w5 = stay (λ w h. note_light (tree ws i) w w5)
 
   -- what the class's mark says of the tree
   met_by : (w : Walk) → Noted ws cs n ms tx k w → (b : Bool) → leb 1 (at ms (at cs i)) ≡ b → among w.met (tree ws i) ≡ b
-  met_by w h b e = sym (h.met i r.inside) ∙ e
+  met_by w h b e = sym (h.met i inside) ∙ e
 
   given_by : (w : Walk) → Noted ws cs n ms tx k w → (b : Bool) → leb 1 (at ms (at cs i) - 1) ≡ b →
       among w.texts (tree ws i) ≡ b
-  given_by w h b e = among_mark w.texts (tree ws i) ∙ ap (leb 1) (sym (h.given i r.inside)) ∙ e
+  given_by w h b e = among_mark w.texts (tree ws i) ∙ ap (leb 1) (sym (h.given i inside)) ∙ e
 
   -- nodes of one class have one mark
   like : (j : ℕ) → eqb (at cs i) (at cs j) ≡ true → at ms (at cs j) ≡ at ms (at cs i)
@@ -106,9 +108,9 @@ module _ {ws cs : List ℕ} {n : ℕ} {ms tx : List ℕ} {i k : ℕ} (r : MeetRe
         record {
           fits =
               record {
-                marks = length-set ms (at cs i) 1 ∙ r.fits.marks;
-                places = r.fits.places;
-                room = omega (arith, r.fits.room, unused_first n ms (at cs i) class_below room z);
+                marks = length-set ms (at cs i) 1 ∙ fits.marks;
+                places = fits.places;
+                room = omega (arith, fits.room, unused_first n ms (at cs i) class_below room z);
                 past = past_kept 1;
               };
           noted = first_noted z;
@@ -134,13 +136,13 @@ module _ {ws cs : List ℕ} {n : ℕ} {ms tx : List ℕ} {i k : ℕ} (r : MeetRe
           go false e = h.given j lj ∙ sym (mark_kept w.texts (tree ws i) (tree ws j) (tells j lj ∙ e))
 
       place : k < length tx
-      place = omega (arith, r.fits.places, room_more z, r.table.few)
+      place = omega (arith, fits.places, room_more z, ready.table.few)
 
       second_nodes : (s : ℕ) → s < k + 1 → at (set tx k i) s < n
       second_nodes s b = rw (at_set tx k i s place) (go (eqb k s) refl)
         where
           go : (b : Bool) → eqb k s ≡ b → cond b i (at tx s) < n
-          go true e = r.inside
+          go true e = inside
           go false e = let d = eqb-false k s e in h.nodes s (omega arith)
 
       second_trees : (s : ℕ) → s < k + 1 → get_elem? (w.texts ++ (tree ws i ∷ [])) s ≡ some (tree ws (at (set tx k i) s))
@@ -178,9 +180,9 @@ module _ {ws cs : List ℕ} {n : ℕ} {ms tx : List ℕ} {i k : ℕ} (r : MeetRe
         record {
           fits =
               record {
-                marks = length-set ms (at cs i) (k + 2) ∙ r.fits.marks;
-                places = length-set tx k i ∙ r.fits.places;
-                room = omega (arith, r.fits.room, unused_second n ms (at cs i) class_below room k z);
+                marks = length-set ms (at cs i) (k + 2) ∙ fits.marks;
+                places = length-set tx k i ∙ fits.places;
+                room = omega (arith, fits.room, unused_second n ms (at cs i) class_below room k z);
                 past = past_kept (k + 2);
               };
           noted = second_noted z;

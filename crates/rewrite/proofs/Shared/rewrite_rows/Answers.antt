@@ -1,6 +1,6 @@
 -- A turn puts out one statement of those that are left.
-use Rattle.std.proofs.Common.{◌≤◌, arith, refl, ◌∙◌}
-use Rattle.statement.proofs.SheetRows.{rows_taken, row_below, row_given, row_root}
+use Rattle.std.proofs.Common.{arith, refl, ◌∙◌}
+use Rattle.statement.proofs.SheetRows.{row_root}
 use Rattle.rewrite.proofs.Sheets.{underway_starts, underway_goes_on, underway_ends}
 use Rattle.rewrite.proofs.Sheets.{statement_ready, rows_fit, turn_puts}
 use Rattle.rewrite.proofs.Shared.rewrite_rows.Goals as goal
@@ -15,7 +15,7 @@ rewrite_statement-requires c =
     let held = c.requires.0.held in
     let h = c.loop-row-test.true in
     rw (row_root held h c.in-Given.is)
-    (statement_ready c.requires.0 inv.long (inv.underway _ _ held c.requires.0.shared) (row_below held h))
+    (statement_ready c.requires.0 inv.long (inv.underway _ _ held c.requires.0.shared) h)
 
 pub loop-row-preserved : goal.loop-row-preserved
 loop-row-preserved c =
@@ -30,17 +30,15 @@ loop-row-preserved c =
             long = rw w.out-is (turn.rows ∙ inv.long);
             underway = λ n texts held shared.
                 rw w.out-is
-                (underway_goes_on held shared (row_below held h) (inv.underway n texts held shared)
+                (underway_goes_on held shared h (inv.underway n texts held shared)
                 (turn_puts h w.in-Given.is puts held shared));
           }
-      | in_default w ↦ absurd (w.in_default.not-Given _ _ (row_given c.requires.0.held h))
+      | in_default w ↦ absurd (w.in_default.not-Given _ _ (c.requires.0.held.given _ h))
     ]
 
 pub returns-clause-eliminates : goal.returns-clause-eliminates
 returns-clause-eliminates c =
     λ n texts held shared.
     let inv = c.loop-row.invariant in
-    let upto : c.loop-row.row-index ≤ c.args.count = omega (arith, rows_taken held) in
-    let from : c.args.count ≤ c.loop-row.row-index = omega (arith, rows_taken held) in
-    let long = rows_fit c.requires.0 inv.long (inv.underway _ _ c.requires.0.held c.requires.0.shared) upto in
-    underway_ends held shared upto from long (inv.underway n texts held shared)
+    let long = rows_fit c.requires.0 inv.long (inv.underway _ _ c.requires.0.held c.requires.0.shared) (omega arith) in
+    underway_ends held shared (omega arith) (omega arith) long (inv.underway n texts held shared)

@@ -1,72 +1,73 @@
 -- Sides come after their node, so the nodes left are fewer.
-use Rattle.std.proofs.Common.{arith, ◌<◌, length, true, false}
+use Rattle.std.proofs.Common.{arith, ◌<◌, true, false}
 use Rattle.node.specs.Nodes.{tree}
 use Rattle.share.proofs.Walking.{walked_low, walked_constant, walked_variable, walked_one, walked_two, matched}
 use Rattle.share.proofs.Sheet.+find_cse.Goals as goal
 use Rattle.share.proofs.Sheet.+find_cse.Goals.{then-self-i, else-self-i}
 
 pub returns-then-weight_of-lt6-clause-walked : goal.returns-then-weight_of-lt6-clause-walked
-returns-then-weight_of-lt6-clause-walked t c = walked_low (tree c.args.self.now.ws.now c.args.i) c.meet.ensures.walked (omega arith)
+returns-then-weight_of-lt6-clause-walked t c =
+    walked_low (tree c.args.self.now.nodes.words.now c.args.i) c.meet.ensures.walked (omega arith)
 
 pub find_cse-requires : goal.find_cse-requires
 find_cse-requires t c =
-    let node = matched c.requires.0.table c.args.i c.requires.2 c.unpack.ensures c.in-Unary.is in
+    let node = matched c.args.self.now.ready.table c.args.i c.requires.1 c.get.ensures c.in-Unary.is in
     let side = node.sides.0 in
-    (omega (arith, side), (c.requires.0, c.meet.ensures.walked.fits, side.1))
+    (omega (arith, side), (c.meet.ensures.walked.fits, side.1))
 
 pub bounds-self-i : goal.bounds-self-i
 bounds-self-i t c =
-    let node = matched c.requires.0.table c.args.i c.requires.2 c.unpack.ensures c.in-Binary.is in
-    omega (arith, node.sides.0, c.requires.0.sized)
+    let node = matched c.args.self.now.ready.table c.args.i c.requires.1 c.get.ensures c.in-Binary.is in
+    omega (arith, node.sides.0, c.args.self.now.ready.sized)
 
 pub bounds-self-right : goal.bounds-self-right
 bounds-self-right t c =
-    let node = matched c.requires.0.table c.args.i c.requires.2 c.unpack.ensures c.in-Binary.is in
-    omega (arith, node.sides.1, c.requires.0.sized)
+    let node = matched c.args.self.now.ready.table c.args.i c.requires.1 c.get.ensures c.in-Binary.is in
+    omega (arith, node.sides.1, c.args.self.now.ready.sized)
 
 -- the larger side
 pub find_cse-requires-in-Binary : goal.find_cse-requires-in-Binary
 find_cse-requires-in-Binary t c =
-    let node = matched c.requires.0.table c.args.i c.requires.2 c.unpack.ensures c.in-Binary.is in
-    let side : (c.args.i < c.if-self-i.larger) × (c.if-self-i.larger < length c.args.self.now.classes.now) =
+    let node = matched c.args.self.now.ready.table c.args.i c.requires.1 c.get.ensures c.in-Binary.is in
+    let side : (c.args.i < c.if-self-i.larger) × (c.if-self-i.larger < c.args.self.now.nodes.count) =
     elim c.if-self-i.branch [
       | then-self-i w ↦ (omega (arith, node.sides.1), omega (arith, node.sides.1))
       | else-self-i w ↦ (omega (arith, node.sides.0), omega (arith, node.sides.0))
     ] in
-    (omega (arith, side), (c.requires.0, c.meet.ensures.walked.fits, side.1))
+    (omega (arith, side), (c.meet.ensures.walked.fits, side.1))
 
 -- the other one
 pub find_cse-requires-in-Binary-2 : goal.find_cse-requires-in-Binary-2
 find_cse-requires-in-Binary-2 t c =
-    let node = matched c.requires.0.table c.args.i c.requires.2 c.unpack.ensures c.in-Binary.is in
-    let side : (c.args.i < c.if-self-i.other) × (c.if-self-i.other < length c.args.self.now.classes.now) =
+    let node = matched c.args.self.now.ready.table c.args.i c.requires.1 c.get.ensures c.in-Binary.is in
+    let side : (c.args.i < c.if-self-i.other) × (c.if-self-i.other < c.args.self.now.nodes.count) =
     elim c.if-self-i.branch [
       | then-self-i w ↦ (omega (arith, node.sides.0), omega (arith, node.sides.0))
       | else-self-i w ↦ (omega (arith, node.sides.1), omega (arith, node.sides.1))
     ] in
-    (omega (arith, side), (c.requires.0, c.find_cse-in-Binary.ensures.walked.fits, side.1))
+    (omega (arith, side), (c.find_cse-in-Binary.ensures.walked.fits, side.1))
 
 pub returns-in-Const-clause-walked : goal.returns-in-Const-clause-walked
 returns-in-Const-clause-walked t c =
-    let node = matched c.requires.0.table c.args.i c.requires.2 c.unpack.ensures c.in-Const.is in
-    walked_constant (tree c.args.self.now.ws.now c.args.i) c.meet.ensures.walked _ node.whole
+    let node = matched c.args.self.now.ready.table c.args.i c.requires.1 c.get.ensures c.in-Const.is in
+    walked_constant (tree c.args.self.now.nodes.words.now c.args.i) c.meet.ensures.walked _ node.whole
 
 pub returns-in-Var-clause-walked : goal.returns-in-Var-clause-walked
 returns-in-Var-clause-walked t c =
-    let node = matched c.requires.0.table c.args.i c.requires.2 c.unpack.ensures c.in-Var.is in
-    walked_variable (tree c.args.self.now.ws.now c.args.i) c.meet.ensures.walked _ node.whole
+    let node = matched c.args.self.now.ready.table c.args.i c.requires.1 c.get.ensures c.in-Var.is in
+    walked_variable (tree c.args.self.now.nodes.words.now c.args.i) c.meet.ensures.walked _ node.whole
 
 pub returns-in-Unary-clause-walked : goal.returns-in-Unary-clause-walked
 returns-in-Unary-clause-walked t c =
-    let node = matched c.requires.0.table c.args.i c.requires.2 c.unpack.ensures c.in-Unary.is in
-    walked_one (tree c.args.self.now.ws.now c.args.i) c.meet.ensures.walked _ _ node.whole c.find_cse.ensures.walked
+    let node = matched c.args.self.now.ready.table c.args.i c.requires.1 c.get.ensures c.in-Unary.is in
+    walked_one (tree c.args.self.now.nodes.words.now c.args.i) c.meet.ensures.walked _ _ node.whole c.find_cse.ensures.walked
 
 pub returns-after-self-i-clause-walked : goal.returns-after-self-i-clause-walked
 returns-after-self-i-clause-walked t c =
-    let node = matched c.requires.0.table c.args.i c.requires.2 c.unpack.ensures c.in-Binary.is in
-    let left = c.requires.0.ershovs _ (omega arith) node.sides.0.1 in
-    let right = c.requires.0.ershovs _ (omega arith) node.sides.1.1 in
-    let two = walked_two (tree c.args.self.now.ws.now c.args.i) c.meet.ensures.walked _ _ _ node.whole in
+    let node = matched c.args.self.now.ready.table c.args.i c.requires.1 c.get.ensures c.in-Binary.is in
+    let left = c.args.self.now.ready.ershovs _ (omega arith) node.sides.0.1 in
+    let right = c.args.self.now.ready.ershovs _ (omega arith) node.sides.1.1 in
+    let two = walked_two (tree c.args.self.now.nodes.words.now c.args.i) c.meet.ensures.walked _ _ _ node.whole in
     let larger = c.find_cse-in-Binary.ensures.walked in
     let other = c.find_cse-in-Binary-2.ensures.walked in
     elim c.if-self-i.branch [

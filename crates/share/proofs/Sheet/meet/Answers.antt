@@ -4,16 +4,17 @@ use Rattle.share.proofs.MeetingMarks.{room_more, light, first, second, later}
 use Rattle.share.proofs.Sheet.meet.Goals as goal
 
 pub returns-then-weight_of-lt5-clause-walked : goal.returns-then-weight_of-lt5-clause-walked
-returns-then-weight_of-lt5-clause-walked c = light c.requires (omega arith)
+returns-then-weight_of-lt5-clause-walked c = light c.args.self.now.ready c.requires.0 c.requires.1 (omega arith)
 
 pub bounds-met-met : goal.bounds-met-met
-bounds-met-met c = omega (arith, room_more c.requires c.in-1.is, c.requires.table.few)
+bounds-met-met c = omega (arith, room_more c.args.self.now.ready c.requires.0 c.requires.1 c.in-1.is, c.args.self.now.ready.table.few)
 
 pub returns-in-0-clause-walked : goal.returns-in-0-clause-walked
-returns-in-0-clause-walked c = first c.requires (omega arith) c.in-0.is
+returns-in-0-clause-walked c = first c.args.self.now.ready c.requires.0 c.requires.1 (omega arith) c.in-0.is
 
 pub returns-in-1-clause-walked : goal.returns-in-1-clause-walked
-returns-in-1-clause-walked c = second c.requires (omega arith) c.in-1.is
+returns-in-1-clause-walked c = second c.args.self.now.ready c.requires.0 c.requires.1 (omega arith) c.in-1.is
 
 pub returns-in_default-clause-walked : goal.returns-in_default-clause-walked
-returns-in_default-clause-walked c = later c.requires (omega arith) (λ e. omega arith) (λ e. omega arith)
+returns-in_default-clause-walked c =
+    later c.args.self.now.ready c.requires.0 c.requires.1 (omega arith) (λ e. omega arith) (λ e. omega arith)

@@ -7,13 +7,13 @@ use Rattle.share.proofs.Sheet.walk_rows.Goals.{in-Some, in_default}
 
 pub loop-row-init : goal.loop-row-init
 loop-row-init c =
-    let unmet = c.requires.2 in
+    let unmet = c.requires.1 in
     record { lent = (refl, refl); walked = rw unmet.2 (walked_none c.args.rows.now unmet.0 unmet.1) }
 
 pub loop-row-preserved : goal.loop-row-preserved
 loop-row-preserved c =
     let inv = c.loop-row.invariant in
-    let held = c.requires.1 in
+    let held = c.requires.0 in
     let h = c.loop-row-test.true in
     elim c.match-root.branch [
       | in-Some w ↦
