@@ -1,5 +1,5 @@
 -- Each return cites one law: a text is stored after the trees in it, sides left before right, and a node goes by its mark.
-use Rattle.std.proofs.Common.{arith, refl}
+use Rattle.std.proofs.Common.{arith, refl, inl, inr}
 use Rattle.rewrite.proofs.Rewriting.{unmarked_by, marked_by, node_text, node_text_depth, node_unmarked, node_marked}
 use Rattle.rewrite.proofs.Rewriting.{side_one, side_left, side_right, sides_leaf, sides_one, sides_two}
 use Rattle.rewrite.proofs.Rewriting.{text_node, text_new}
@@ -42,11 +42,11 @@ rewrite_children-rewrite_cse-requires-in-Binary-2 t c =
 
 pub rewrite_children-returns-in-Const-clause-stores : goal.rewrite_children-returns-in-Const-clause-stores
 rewrite_children-returns-in-Const-clause-stores t c =
-    λ n texts a. sides_leaf a c.unpack-node.ensures c.in-Const.is (λ T st. refl) c.requires.flags
-
-pub rewrite_children-returns-in-Var-clause-stores : goal.rewrite_children-returns-in-Var-clause-stores
-rewrite_children-returns-in-Var-clause-stores t c =
-    λ n texts a. sides_leaf a c.unpack-node.ensures c.in-Var.is (λ T st. refl) c.requires.flags
+    λ n texts a.
+    elim c.in-Const.is [
+      | inl w ↦ sides_leaf a c.unpack-node.ensures w.1 (λ T st. refl) c.requires.flags
+      | inr w ↦ sides_leaf a c.unpack-node.ensures w.1 (λ T st. refl) c.requires.flags
+    ]
 
 pub rewrite_children-returns-in-Unary-clause-stores : goal.rewrite_children-returns-in-Unary-clause-stores
 rewrite_children-returns-in-Unary-clause-stores t c =

@@ -11,7 +11,7 @@ invariant-loop-row l =
     record {
       same : l.out.rows.ghost_name ≡ l.initial.out.rows.ghost_name;
       long : length l.out.rows.now ≡ length l.initial.out.rows.now;
-      underway : (n : ℕ) (texts : List Tree) → SheetHeld l.self.ws.now l.rows n (length l.rows) →
-          SheetShared l.self.ws.now l.self.sh.now l.self.tx.now n texts →
-          Underway l.self.ws.now l.self.sh.now l.rows (length l.rows) l.row-index n texts (stage_of l.out);
+      underway : (n : ℕ) (texts : List Tree) → SheetHeld l.self.words.now l.rows n (length l.rows) →
+          SheetShared l.self.words.now l.self.marks.now l.self.texts.now n texts →
+          Underway l.self.words.now l.self.marks.now l.rows (length l.rows) l.row-index n texts (stage_of l.out);
     }

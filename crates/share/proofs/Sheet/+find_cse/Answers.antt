@@ -1,5 +1,6 @@
 -- Sides come after their node, so the nodes left are fewer.
-use Rattle.std.proofs.Common.{arith, ◌<◌, true, false}
+use Rattle.std.proofs.Common.{arith, ◌≡◌, ◌<◌, true, false, inl, inr}
+use Rattle.node.specs.declared.Node.{Node}
 use Rattle.node.specs.Nodes.{tree}
 use Rattle.share.proofs.Walking.{walked_low, walked_constant, walked_variable, walked_one, walked_two, matched}
 use Rattle.share.proofs.Sheet.+find_cse.Goals as goal
@@ -49,13 +50,12 @@ find_cse-requires-in-Binary-2 t c =
 
 pub returns-in-Const-clause-walked : goal.returns-in-Const-clause-walked
 returns-in-Const-clause-walked t c =
-    let node = matched c.args.self.now.ready.table c.args.i c.requires.1 c.get.ensures c.in-Const.is in
-    walked_constant (tree c.args.self.now.nodes.words.now c.args.i) c.meet.ensures.walked _ node.whole
-
-pub returns-in-Var-clause-walked : goal.returns-in-Var-clause-walked
-returns-in-Var-clause-walked t c =
-    let node = matched c.args.self.now.ready.table c.args.i c.requires.1 c.get.ensures c.in-Var.is in
-    walked_variable (tree c.args.self.now.nodes.words.now c.args.i) c.meet.ensures.walked _ node.whole
+    let whole = tree c.args.self.now.nodes.words.now c.args.i in
+    let node = λ (m : Node) (e : c.get.result ≡ m). matched c.args.self.now.ready.table c.args.i c.requires.1 c.get.ensures e in
+    elim c.in-Const.is [
+      | inl w ↦ walked_constant whole c.meet.ensures.walked _ (node _ w.1).whole
+      | inr w ↦ walked_variable whole c.meet.ensures.walked _ (node _ w.1).whole
+    ]
 
 pub returns-in-Unary-clause-walked : goal.returns-in-Unary-clause-walked
 returns-in-Unary-clause-walked t c =
