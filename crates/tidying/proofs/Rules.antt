@@ -3,9 +3,14 @@ use mathlib.Core.Path.{◌≡◌, refl, ap}
 use mathlib.Core.Bool.{Bool, true, false, cond, ◌&&◌, false≢true}
 use Prim.Native.Nat.{ℕ, zero, suc, ◌+◌, ◌<◌, ◌≤◌}
 use native.Mathlib.Omega.{arith}
+use lib.Dec.{eqb}
 use borrow.Author.Tests.{eqb-true}
-use Rattle.operation.specs.Codes.{plus_code, minus_code, times_code, divide_code, recip_code}
-use Rattle.tidying.specs.Codes.{neg_code, abs2_code, conjugate_code}
+use Rattle.operation.specs.declared.UnaryCode.{UnaryCode}
+use Rattle.operation.specs.declared.UnaryCode.TheVariants.{Neg, Abs2, Recip, Conjugate}
+use Rattle.operation.specs.declared.BinaryCode.{BinaryCode}
+use Rattle.operation.specs.declared.BinaryCode.TheVariants.{Plus, Minus, Times, Divide}
+use Rattle.operation.specs.Numbers.{unary_number, binary_number}
+use Rattle.operation.proofs.Numbers.{unary_number_tells, binary_number_tells}
 use Rattle.operation.specs.declared.One.{One}
 use Rattle.operation.specs.declared.One.TheVariants.{Unary, Power, Function1}
 use Rattle.operation.specs.declared.Two.{Two}
@@ -20,20 +25,20 @@ use Rattle.tidying.specs.Tidy.{times_rules, divide_rules, plus_rules, code_rules
 pub data Rule (u : Units) : Two → Tree → Tree → Outcome → Type 0 where
   none : (o : Two) (l r : Tree) → Rule u o l r stays
   minus_left : (i : ℕ) (r : Tree) → u.is_minus i ≡ true →
-      Rule u (Binary times_code) (constant i) r (becomes (one (Unary neg_code) r))
+      Rule u (Binary Times) (constant i) r (becomes (one (Unary Neg) r))
   minus_right : (i : ℕ) (l : Tree) → u.is_minus i ≡ true →
-      Rule u (Binary times_code) l (constant i) (becomes (one (Unary neg_code) l))
-  one_left : (i : ℕ) (r : Tree) → u.is_one i ≡ true → Rule u (Binary times_code) (constant i) r (becomes (alone r))
-  one_right : (i : ℕ) (l : Tree) → u.is_one i ≡ true → Rule u (Binary times_code) l (constant i) (becomes (alone l))
-  recip_left : (a r : Tree) → Rule u (Binary times_code) (one (Unary recip_code) a) r (again (Binary divide_code) r a)
-  recip_right : (l a : Tree) → Rule u (Binary times_code) l (one (Unary recip_code) a) (again (Binary divide_code) l a)
+      Rule u (Binary Times) l (constant i) (becomes (one (Unary Neg) l))
+  one_left : (i : ℕ) (r : Tree) → u.is_one i ≡ true → Rule u (Binary Times) (constant i) r (becomes (alone r))
+  one_right : (i : ℕ) (l : Tree) → u.is_one i ≡ true → Rule u (Binary Times) l (constant i) (becomes (alone l))
+  recip_left : (a r : Tree) → Rule u (Binary Times) (one (Unary Recip) a) r (again (Binary Divide) r a)
+  recip_right : (l a : Tree) → Rule u (Binary Times) l (one (Unary Recip) a) (again (Binary Divide) l a)
   conjugate_right : (l a : Tree) → same a l ≡ true →
-      Rule u (Binary times_code) l (one (Unary conjugate_code) a) (becomes (one (Unary abs2_code) l))
+      Rule u (Binary Times) l (one (Unary Conjugate) a) (becomes (one (Unary Abs2) l))
   conjugate_left : (a r : Tree) → same a r ≡ true →
-      Rule u (Binary times_code) (one (Unary conjugate_code) a) r (becomes (one (Unary abs2_code) r))
-  over_recip : (l a : Tree) → Rule u (Binary divide_code) l (one (Unary recip_code) a) (again (Binary times_code) l a)
-  neg_left : (a r : Tree) → Rule u (Binary plus_code) (one (Unary neg_code) a) r (again (Binary minus_code) r a)
-  neg_right : (l a : Tree) → Rule u (Binary plus_code) l (one (Unary neg_code) a) (again (Binary minus_code) l a)
+      Rule u (Binary Times) (one (Unary Conjugate) a) r (becomes (one (Unary Abs2) r))
+  over_recip : (l a : Tree) → Rule u (Binary Divide) l (one (Unary Recip) a) (again (Binary Times) l a)
+  neg_left : (a r : Tree) → Rule u (Binary Plus) (one (Unary Neg) a) r (again (Binary Minus) r a)
+  neg_right : (l a : Tree) → Rule u (Binary Plus) l (one (Unary Neg) a) (again (Binary Minus) l a)
 
 -- what a test tells of a side
 const_found : (P : Tree → Type 0) (f : ℕ → Bool) (t : Tree) → is_const f t ≡ true →
@@ -43,12 +48,12 @@ const_found P f (variable p) e k = absurd (false≢true e)
 const_found P f (one o a) e k = absurd (false≢true e)
 const_found P f (two o l r) e k = absurd (false≢true e)
 
-code_found : (P : One → Type 0) (c : ℕ) (o : One) → has_code c o ≡ true → P (Unary c) → P o
-code_found P c (Unary d) e k = rw (eqb-true d c e) k
+code_found : (P : One → Type 0) (c : UnaryCode) (o : One) → has_code c o ≡ true → P (Unary c) → P o
+code_found P c (Unary d) e k = rw (unary_number_tells d c (eqb-true (unary_number d) (unary_number c) e)) k
 code_found P c (Power stable w) e k = absurd (false≢true e)
 code_found P c (Function1 f) e k = absurd (false≢true e)
 
-unary_found : (P : Tree → Tree → Type 0) (c : ℕ) (t : Tree) → is_unary c t ≡ true →
+unary_found : (P : Tree → Tree → Type 0) (c : UnaryCode) (t : Tree) → is_unary c t ≡ true →
     ((a : Tree) → P (one (Unary c) a) a) → P t (argument t)
 unary_found P c (constant i) e k = absurd (false≢true e)
 unary_found P c (variable p) e k = absurd (false≢true e)
@@ -69,64 +74,66 @@ module _ (u : Units) (o : Two) (l r : Tree) where
       ((i : ℕ) → f i ≡ true → Rule u o l (constant i) s) → Rule u o l r s
   right_const f s = const_found (λ x. Rule u o l x s) f r
 
-  left_unary : (c : ℕ) (s : Tree → Outcome) → is_unary c l ≡ true → ((a : Tree) → Rule u o (one (Unary c) a) r (s a)) →
+  left_unary : (c : UnaryCode) (s : Tree → Outcome) → is_unary c l ≡ true → ((a : Tree) → Rule u o (one (Unary c) a) r (s a)) →
       Rule u o l r (s (argument l))
   left_unary c s = unary_found (λ x a. Rule u o x r (s a)) c l
 
-  right_unary : (c : ℕ) (s : Tree → Outcome) → is_unary c r ≡ true → ((a : Tree) → Rule u o l (one (Unary c) a) (s a)) →
+  right_unary : (c : UnaryCode) (s : Tree → Outcome) → is_unary c r ≡ true → ((a : Tree) → Rule u o l (one (Unary c) a) (s a)) →
       Rule u o l r (s (argument r))
   right_unary c s = unary_found (λ x a. Rule u o l x (s a)) c r
 
 -- a conjugate of the other side
-left_conjugate : (u : Units) (l r : Tree) → (is_unary conjugate_code l && same (argument l) r) ≡ true →
-    Rule u (Binary times_code) l r (becomes (one (Unary abs2_code) r))
+left_conjugate : (u : Units) (l r : Tree) → (is_unary Conjugate l && same (argument l) r) ≡ true →
+    Rule u (Binary Times) l r (becomes (one (Unary Abs2) r))
 left_conjugate u l r e =
     let found = and_both _ _ e in
-    unary_found (λ x a. same a r ≡ true → Rule u (Binary times_code) x r (becomes (one (Unary abs2_code) r))) conjugate_code l
+    unary_found (λ x a. same a r ≡ true → Rule u (Binary Times) x r (becomes (one (Unary Abs2) r))) Conjugate l
     found.0 (λ a s. conjugate_left a r s) found.1
 
-right_conjugate : (u : Units) (l r : Tree) → (is_unary conjugate_code r && same (argument r) l) ≡ true →
-    Rule u (Binary times_code) l r (becomes (one (Unary abs2_code) l))
+right_conjugate : (u : Units) (l r : Tree) → (is_unary Conjugate r && same (argument r) l) ≡ true →
+    Rule u (Binary Times) l r (becomes (one (Unary Abs2) l))
 right_conjugate u l r e =
     let found = and_both _ _ e in
-    unary_found (λ x a. same a l ≡ true → Rule u (Binary times_code) l x (becomes (one (Unary abs2_code) l))) conjugate_code r
+    unary_found (λ x a. same a l ≡ true → Rule u (Binary Times) l x (becomes (one (Unary Abs2) l))) Conjugate r
     found.0 (λ a s. conjugate_right l a s) found.1
 
 module _ (u : Units) where
-  times_rule : (l r : Tree) → Rule u (Binary times_code) l r (times_rules u l r)
+  times_rule : (l r : Tree) → Rule u (Binary Times) l r (times_rules u l r)
   times_rule l r =
-      let times = Binary times_code in
+      let times = Binary Times in
       let R : Outcome → Type 0 = Rule u times l r in
-      let over : Tree → Tree → Outcome = again (Binary divide_code) in
+      let over : Tree → Tree → Outcome = again (Binary Divide) in
       by_cond R _ _ _ (λ e. left_const u times l r _ _ e (λ i h. minus_left i r h))
       (λ _. by_cond R _ _ _ (λ e. right_const u times l r _ _ e (λ i h. minus_right i l h))
       (λ _. by_cond R _ _ _ (λ e. left_const u times l r _ _ e (λ i h. one_left i r h))
       (λ _. by_cond R _ _ _ (λ e. right_const u times l r _ _ e (λ i h. one_right i l h))
-      (λ _. by_cond R _ _ _ (λ e. left_unary u times l r recip_code (over r) e (λ a. recip_left a r))
-      (λ _. by_cond R _ _ _ (λ e. right_unary u times l r recip_code (over l) e (λ a. recip_right l a))
+      (λ _. by_cond R _ _ _ (λ e. left_unary u times l r Recip (over r) e (λ a. recip_left a r))
+      (λ _. by_cond R _ _ _ (λ e. right_unary u times l r Recip (over l) e (λ a. recip_right l a))
       (λ _. by_cond R _ _ _ (λ e. right_conjugate u l r e)
       (λ _. by_cond R _ _ _ (λ e. left_conjugate u l r e) (λ _. none times l r))))))))
 
-  divide_rule : (l r : Tree) → Rule u (Binary divide_code) l r (divide_rules l r)
+  divide_rule : (l r : Tree) → Rule u (Binary Divide) l r (divide_rules l r)
   divide_rule l r =
-      let divide = Binary divide_code in
+      let divide = Binary Divide in
       by_cond (Rule u divide l r) _ _ _
-      (λ e. right_unary u divide l r recip_code (again (Binary times_code) l) e (λ a. over_recip l a)) (λ _. none divide l r)
+      (λ e. right_unary u divide l r Recip (again (Binary Times) l) e (λ a. over_recip l a)) (λ _. none divide l r)
 
-  plus_rule : (l r : Tree) → Rule u (Binary plus_code) l r (plus_rules l r)
+  plus_rule : (l r : Tree) → Rule u (Binary Plus) l r (plus_rules l r)
   plus_rule l r =
-      let plus = Binary plus_code in
+      let plus = Binary Plus in
       let R : Outcome → Type 0 = Rule u plus l r in
-      let less : Tree → Tree → Outcome = again (Binary minus_code) in
-      by_cond R _ _ _ (λ e. left_unary u plus l r neg_code (less r) e (λ a. neg_left a r))
-      (λ _. by_cond R _ _ _ (λ e. right_unary u plus l r neg_code (less l) e (λ a. neg_right l a)) (λ _. none plus l r))
+      let less : Tree → Tree → Outcome = again (Binary Minus) in
+      by_cond R _ _ _ (λ e. left_unary u plus l r Neg (less r) e (λ a. neg_left a r))
+      (λ _. by_cond R _ _ _ (λ e. right_unary u plus l r Neg (less l) e (λ a. neg_right l a)) (λ _. none plus l r))
 
-  code_rule : (c : ℕ) (l r : Tree) → Rule u (Binary c) l r (code_rules u c l r)
+  code_rule : (c : BinaryCode) (l r : Tree) → Rule u (Binary c) l r (code_rules u c l r)
   code_rule c l r =
       let R : Outcome → Type 0 = Rule u (Binary c) l r in
-      by_cond R _ _ _ (λ e. rw (eqb-true c times_code e) (times_rule l r))
-      (λ _. by_cond R _ _ _ (λ e. rw (eqb-true c divide_code e) (divide_rule l r))
-      (λ _. by_cond R _ _ _ (λ e. rw (eqb-true c plus_code e) (plus_rule l r)) (λ _. none (Binary c) l r)))
+      let code : (d : BinaryCode) → eqb (binary_number c) (binary_number d) ≡ true → c ≡ d
+      = λ d e. binary_number_tells c d (eqb-true (binary_number c) (binary_number d) e) in
+      by_cond R _ _ _ (λ e. rw (code Times e) (times_rule l r))
+      (λ _. by_cond R _ _ _ (λ e. rw (code Divide e) (divide_rule l r))
+      (λ _. by_cond R _ _ _ (λ e. rw (code Plus e) (plus_rule l r)) (λ _. none (Binary c) l r)))
 
   -- what is made is a rule's
   pub first_rule_lem : (o : Two) (l r : Tree) → Rule u o l r (first_rule u o l r)

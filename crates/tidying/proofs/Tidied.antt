@@ -8,9 +8,10 @@ use mathlib.Core.Path.{◌≡◌, refl}
 use lib.Dec.{eqb}
 use Rattle.symbol.specs.declared.Loc.TheVariants.{Mem}
 use Rattle.symbol.specs.Place.{same_place}
-use Rattle.operation.specs.Codes.{plus_code, minus_code, times_code, divide_code, commutes}
-use Rattle.operation.specs.Codes.{recip_code}
-use Rattle.tidying.specs.Codes.{neg_code, abs2_code, real_code, conjugate_code}
+use Rattle.operation.specs.Codes.{commutes}
+use Rattle.operation.specs.declared.UnaryCode.TheVariants.{Neg, Abs2, Recip, Real, Conjugate}
+use Rattle.operation.specs.declared.BinaryCode.TheVariants.{Plus, Minus, Times, Divide}
+use Rattle.operation.specs.Numbers.{unary_number, binary_number}
 use Rattle.operation.specs.Names.{bytes}
 use Rattle.operation.specs.declared.One.TheVariants.{Unary}
 use Rattle.operation.specs.declared.Two.TheVariants.{Binary}
@@ -57,56 +58,56 @@ abbrev m1 : Tree
 m1 = variable (Mem 1)
 
 abbrev times : Tree → Tree → Tree
-times l r = two (Binary times_code) l r
+times l r = two (Binary Times) l r
 
 abbrev divide : Tree → Tree → Tree
-divide l r = two (Binary divide_code) l r
+divide l r = two (Binary Divide) l r
 
 abbrev plus : Tree → Tree → Tree
-plus l r = two (Binary plus_code) l r
+plus l r = two (Binary Plus) l r
 
 abbrev neg : Tree → Tree
-neg a = one (Unary neg_code) a
+neg a = one (Unary Neg) a
 
 abbrev recip : Tree → Tree
-recip a = one (Unary recip_code) a
+recip a = one (Unary Recip) a
 
 minus_twice : tidy u (times (constant 2) (times (constant 2) m0)) ≡ neg (neg m0)
-unfolding tidy joined made first_rule weight
+unfolding tidy joined made first_rule weight unary_number binary_number
 minus_twice = refl
 
 -- −1 on the right comes before 1 on the left
 minus_first : tidy u (times (constant 1) (constant 2)) ≡ neg (constant 1)
-unfolding tidy joined made first_rule weight
+unfolding tidy joined made first_rule weight unary_number binary_number
 minus_first = refl
 
-one_times_constant : tidy u (times (constant 1) (constant 0)) ≡ one (Unary real_code) (constant 0)
-unfolding tidy joined made first_rule weight
+one_times_constant : tidy u (times (constant 1) (constant 0)) ≡ one (Unary Real) (constant 0)
+unfolding tidy joined made first_rule weight unary_number binary_number
 one_times_constant = refl
 
 -- recip is the unary only
 quotient_stays : tidy u (times m0 (divide (constant 1) m1)) ≡ times m0 (divide (constant 1) m1)
-unfolding tidy joined made first_rule weight same commutes
+unfolding tidy joined made first_rule weight same commutes unary_number binary_number
 quotient_stays = refl
 
 -- results go through the rules again
 three_recips : tidy u (times m0 (recip (recip (recip m1)))) ≡ divide m0 m1
-unfolding tidy joined made first_rule weight same commutes
+unfolding tidy joined made first_rule weight same commutes unary_number binary_number
 three_recips = refl
 
 recip_left_first : tidy u (times (recip m0) (recip (recip m1))) ≡ divide (recip (recip m1)) m0
-unfolding tidy joined made first_rule weight same commutes
+unfolding tidy joined made first_rule weight same commutes unary_number binary_number
 recip_left_first = refl
 
 to_minus_one : tidy u (divide m0 (recip (constant 2))) ≡ neg m0
-unfolding tidy joined made first_rule weight same commutes
+unfolding tidy joined made first_rule weight same commutes unary_number binary_number
 to_minus_one = refl
 
-neg_left_first : tidy u (plus (neg m0) (neg m1)) ≡ two (Binary minus_code) (neg m1) m0
-unfolding tidy joined made first_rule weight
+neg_left_first : tidy u (plus (neg m0) (neg m1)) ≡ two (Binary Minus) (neg m1) m0
+unfolding tidy joined made first_rule weight unary_number binary_number
 neg_left_first = refl
 
 -- same trees, sides exchanged
-conjugates : tidy u (times (plus m0 m1) (one (Unary conjugate_code) (plus m1 m0))) ≡ one (Unary abs2_code) (plus m0 m1)
-unfolding tidy joined made first_rule weight same commutes same_place
+conjugates : tidy u (times (plus m0 m1) (one (Unary Conjugate) (plus m1 m0))) ≡ one (Unary Abs2) (plus m0 m1)
+unfolding tidy joined made first_rule weight same commutes same_place unary_number binary_number
 conjugates = refl

@@ -4,6 +4,7 @@ use Prim.Native.Nat.{◌+◌, ◌≤◌}
 use native.Mathlib.Omega.{arith}
 use Rattle.symbol.specs.declared.Loc.{Loc}
 use Rattle.operation.specs.Codes.{plus_code, times_code, commutes, unary_form, binary_form}
+use Rattle.operation.specs.Numbers.{unary_number, binary_number}
 use Rattle.operation.specs.declared.Two.{Two}
 use Rattle.definitions.specs.Tree.{Tree, constant, variable, one, two, weight, depth}
 use Rattle.definitions.specs.Meaning.{Meaning, Memory, value, unary_value, binary_value}
@@ -142,7 +143,7 @@ module _ (u : Units) (m : Meaning) (q : Equations u m) (μ : Memory m.Value) whe
   SameValue t s = value m μ t ≡ value m μ s
 
   alone_value : (t : Tree) → value m μ t ≡ value m μ (alone t)
-  unfolding value unary_value unary_form
+  unfolding value unary_value unary_form unary_number
   alone_value (constant i) = sym (q.real_constant i)
   alone_value (variable p) = refl
   alone_value (one o a) = refl
@@ -153,7 +154,7 @@ module _ (u : Units) (m : Meaning) (q : Equations u m) (μ : Memory m.Value) whe
   turned x y = q.commuting times_code refl x y
 
   rule_value : {o : Two} {l r : Tree} {s : Outcome} → Rule u o l r s → SameValue (two o l r) (followed two o l r s)
-  unfolding value unary_value unary_form binary_value binary_form commutes
+  unfolding value unary_value unary_form binary_value binary_form commutes unary_number binary_number
   rule_value (none o l r) = refl
   rule_value (minus_left i r e) = q.minus_times i e (value m μ r)
   rule_value (minus_right i l e) = turned _ _ ∙ q.minus_times i e (value m μ l)

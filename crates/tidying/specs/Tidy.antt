@@ -1,7 +1,10 @@
 -- Tidying: T-04, the real-mode rules of `Builder::create_binary` for times, divide and plus, in the order of builder.rs.
 use Rattle.std.specs.Prelude.{ℕ, zero, suc, ◌+◌, Bool, false, cond, ◌&&◌, List, [], ◌∷◌, eqb}
-use Rattle.operation.specs.Codes.{plus_code, minus_code, times_code, divide_code, recip_code}
-use Rattle.tidying.specs.Codes.{neg_code, abs2_code, real_code, conjugate_code}
+use Rattle.operation.specs.declared.UnaryCode.{UnaryCode}
+use Rattle.operation.specs.declared.UnaryCode.TheVariants.{Neg, Abs2, Recip, Real, Conjugate}
+use Rattle.operation.specs.declared.BinaryCode.{BinaryCode}
+use Rattle.operation.specs.declared.BinaryCode.TheVariants.{Plus, Minus, Times, Divide}
+use Rattle.operation.specs.Numbers.{unary_number, binary_number}
 use Rattle.operation.specs.declared.One.{One}
 use Rattle.operation.specs.declared.One.TheVariants.{Unary, Power, Function1}
 use Rattle.operation.specs.declared.Two.{Two}
@@ -23,12 +26,12 @@ is_const matches (one o a) = false
 is_const matches (two o l r) = false
 
 -- node.rs, `is_unary`
-abbrev pub has_code : ℕ → One → Bool
-has_code c (Unary d) = eqb d c
+abbrev pub has_code : UnaryCode → One → Bool
+has_code c (Unary d) = eqb (unary_number d) (unary_number c)
 has_code c (Power stable w) = false
 has_code c (Function1 f) = false
 
-abbrev pub is_unary : ℕ → Tree → Bool
+abbrev pub is_unary : UnaryCode → Tree → Bool
 is_unary c (constant i) = false
 is_unary c (variable p) = false
 is_unary c (one o a) = has_code c o
@@ -43,7 +46,7 @@ argument (two o l r) = two o l r
 
 -- 1 × t: t itself, or the real part of a constant
 abbrev pub alone : Tree → Tree
-alone (constant i) = one (Unary real_code) (constant i)
+alone (constant i) = one (Unary Real) (constant i)
 alone (variable p) = variable p
 alone (one o a) = one o a
 alone (two o l r) = two o l r
@@ -56,29 +59,29 @@ pub data Outcome : Type 0 where
 
 abbrev pub times_rules : Units → (l r : Tree) → Outcome
 times_rules u l r =
-    cond (is_const u.is_minus l) (becomes (one (Unary neg_code) r))
-    (cond (is_const u.is_minus r) (becomes (one (Unary neg_code) l))
+    cond (is_const u.is_minus l) (becomes (one (Unary Neg) r))
+    (cond (is_const u.is_minus r) (becomes (one (Unary Neg) l))
     (cond (is_const u.is_one l) (becomes (alone r))
     (cond (is_const u.is_one r) (becomes (alone l))
-    (cond (is_unary recip_code l) (again (Binary divide_code) r (argument l))
-    (cond (is_unary recip_code r) (again (Binary divide_code) l (argument r))
-    (cond (is_unary conjugate_code r && same (argument r) l) (becomes (one (Unary abs2_code) l))
-    (cond (is_unary conjugate_code l && same (argument l) r) (becomes (one (Unary abs2_code) r))
+    (cond (is_unary Recip l) (again (Binary Divide) r (argument l))
+    (cond (is_unary Recip r) (again (Binary Divide) l (argument r))
+    (cond (is_unary Conjugate r && same (argument r) l) (becomes (one (Unary Abs2) l))
+    (cond (is_unary Conjugate l && same (argument l) r) (becomes (one (Unary Abs2) r))
     stays)))))))
 
 abbrev pub divide_rules : (l r : Tree) → Outcome
-divide_rules l r = cond (is_unary recip_code r) (again (Binary times_code) l (argument r)) stays
+divide_rules l r = cond (is_unary Recip r) (again (Binary Times) l (argument r)) stays
 
 abbrev pub plus_rules : (l r : Tree) → Outcome
 plus_rules l r =
-    cond (is_unary neg_code l) (again (Binary minus_code) r (argument l))
-    (cond (is_unary neg_code r) (again (Binary minus_code) l (argument r)) stays)
+    cond (is_unary Neg l) (again (Binary Minus) r (argument l))
+    (cond (is_unary Neg r) (again (Binary Minus) l (argument r)) stays)
 
-abbrev pub code_rules : Units → ℕ → (l r : Tree) → Outcome
+abbrev pub code_rules : Units → BinaryCode → (l r : Tree) → Outcome
 code_rules u c l r =
-    cond (eqb c times_code) (times_rules u l r)
-    (cond (eqb c divide_code) (divide_rules l r)
-    (cond (eqb c plus_code) (plus_rules l r) stays))
+    cond (eqb (binary_number c) (binary_number Times)) (times_rules u l r)
+    (cond (eqb (binary_number c) (binary_number Divide)) (divide_rules l r)
+    (cond (eqb (binary_number c) (binary_number Plus)) (plus_rules l r) stays))
 
 unfoldable pub first_rule : Units → Two → (l r : Tree) → Outcome
 first_rule u (Binary c) l r = code_rules u c l r
