@@ -5,17 +5,15 @@ ghost use Rattle.std.specs.Prelude.{◌≡◌, ◌+◌, ◌<◌, length};
 ghost use Rattle.tidying.specs.Units.{number64 as number_at, is_unit};
 
 // The one pattern that is equal to 1, and the one that is equal to −1.
-const ONE: u64 = 0x3ff0_0000_0000_0000;
+const ONE: u64 = f64::to_bits(1.0);
 
-const MINUS_ONE: u64 = 0xbff0_0000_0000_0000;
+const MINUS_ONE: u64 = f64::to_bits(-1.0);
 
 fn number64(s: &[u8], at: usize) -> u64
     requires { at + 7 < length s.now }
     ensures { result ≡ number_at s.now at }
 {
-    let low = header::number32(s, at);
-    let high = header::number32(s, at + 4);
-    low as u64 + 0x1_0000_0000 * high as u64
+    u64::from(header::number32(s, at)) + (u64::from(header::number32(s, at + 4)) << 32)
 }
 
 // Is constant k 1, or −1? Past the table none is.
@@ -26,8 +24,6 @@ pub fn is_unit(values: &[u8], negative: bool, k: u32) -> bool
     if values.len() <= at + 7 {
         return false;
     }
-    if negative {
-        return number64(values, at) == MINUS_ONE;
-    }
-    number64(values, at) == ONE
+    let unit = if negative { MINUS_ONE } else { ONE };
+    number64(values, at) == unit
 }
