@@ -11,10 +11,11 @@ use Rattle.operation.specs.declared.Two.{Two}
 use Rattle.definitions.specs.Tree.{weight}
 use Rattle.node.specs.declared.Node.{Node}
 use Rattle.node.specs.declared.Node.TheVariants.{Const, Var, Unary as UnaryNode, Binary as BinaryNode}
+use Rattle.node.specs.Sides.{Sides}
 use Rattle.node.specs.Nodes.{node_tag, node_word, node_at, end_at, layout}
 use Rattle.node.proofs.Laying.{weight_positive}
 use Rattle.tidying.proofs.Laying.{one_laid, two_laid}
-use Rattle.links.specs.Links.{link_tree, linked, Inside, Sides, Row, Fits, Lays}
+use Rattle.links.specs.Links.{link_tree, linked, Inside, Row, Fits, Lays}
 use Rattle.links.proofs.Links.{row_side, row_tree, row_rises, row_packed}
 
 -- a leaf
@@ -61,7 +62,7 @@ module _ {rows : List ℕ} {i m : ℕ} (fits : Fits rows i m) where
     -- over one side
     module _ {o : One} (read : Read rows i (UnaryNode o) tag word left) where
       pub unary_fits : (length rows - left < length rows - i) × Fits rows left (m + 1)
-      unfolding weight
+      unfolding weight Sides
       unary_fits = let few = rw read.tree at fits.few in side_fits left (m + 1) read.sides (omega arith)
 
       pub unary_laid : {ws ws₁ ws' : List ℕ} {end : ℕ} → Lays rows left (m + 1) ws ws₁ end
@@ -76,12 +77,12 @@ module _ {rows : List ℕ} {i m : ℕ} (fits : Fits rows i m) where
     -- over two sides
     module _ {o : Two} {right : ℕ} (read : Read rows i (BinaryNode o right) tag word left) where
       pub left_fits_lem : (length rows - left < length rows - i) × Fits rows left (m + 1)
-      unfolding weight
+      unfolding weight Sides
       left_fits_lem = let few = rw read.tree at fits.few in side_fits left (m + 1) read.sides.0 (omega arith)
 
       pub right_fits_lem : {mid : ℕ} → mid ≡ m + 1 + weight (linked rows left)
           → (length rows - right < length rows - i) × Fits rows right mid
-      unfolding weight
+      unfolding weight Sides
       right_fits_lem {mid} e = let few = rw read.tree at fits.few in side_fits right mid read.sides.1 (omega arith)
 
       pub binary_laid : {ws ws₁ ws₂ ws' : List ℕ} {mid end : ℕ}

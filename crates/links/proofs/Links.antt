@@ -8,19 +8,14 @@ use Rattle.limits.specs.Limits.{node_limit}
 use Rattle.definitions.specs.Tree.{Tree, one, two}
 use Rattle.node.specs.declared.Node.{Node}
 use Rattle.node.specs.declared.Node.TheVariants.{Const, Var, Unary as UnaryNode, Binary as BinaryNode}
+use Rattle.node.specs.Sides.{Sides}
+use Rattle.node.proofs.Sides.{sides_more}
 use Rattle.node.specs.Nodes.{node_at, end_at, Packed}
-use Rattle.links.specs.Links.{link_tree, linked_from, linked, Inside, Sides, Links, Row}
-
--- ---- a node's sides
-
-pub sides_map : {P Q : ℕ → Type 0} → ((j : ℕ) → P j → Q j) → (left : ℕ) (m : Node) → Sides P left m → Sides Q left m
-sides_map f left (Const k) h = h
-sides_map f left (Var p) h = h
-sides_map f left (UnaryNode o) h = f left h
-sides_map f left (BinaryNode o right) h = (f left h.0, f right h.1)
+use Rattle.links.specs.Links.{link_tree, linked_from, linked, Inside, Links, Row}
 
 -- trees over equal sides are equal
 pub over : (f g : ℕ → Tree) (left : ℕ) (m : Node) → Sides (λ j. f j ≡ g j) left m → link_tree f left m ≡ link_tree g left m
+unfolding Sides
 over f g left (Const k) h = refl
 over f g left (Var p) h = refl
 over f g left (UnaryNode o) h = ap (one o) h
@@ -53,14 +48,14 @@ module _ {rows : List ℕ} {lo : ℕ} (links : Links rows lo) where
   turns_enough (suc k) zero i a b c d = absurd (omega (arith, links.few))
   turns_enough (suc k) (suc j) i a b c d =
       over (linked_from k rows) (linked_from j rows) (end_at rows i) (node_at rows i)
-      (sides_map {P = After rows i} (λ x h. turns_enough k j x (omega arith) h.1 (omega arith) (omega arith))
+      (sides_more (After rows i) _ (λ x h. turns_enough k j x (omega arith) h.1 (omega arith) (omega arith))
       (end_at rows i) (node_at rows i) (links.rises i a b))
 
   pub linked_node : (i : ℕ) → lo ≤ i → Inside rows i → linked rows i ≡ link_tree (linked rows) (end_at rows i) (node_at rows i)
   unfolding linked linked_from
   linked_node i a b =
       over (linked_from (node_limit - 1) rows) (linked rows) (end_at rows i) (node_at rows i)
-      (sides_map {P = After rows i} (λ x h. turns_enough (node_limit - 1) node_limit x (omega arith) h.1 (omega arith) (omega arith))
+      (sides_more (After rows i) _ (λ x h. turns_enough (node_limit - 1) node_limit x (omega arith) h.1 (omega arith) (omega arith))
       (end_at rows i) (node_at rows i) (links.rises i a b))
 
 pub row_tree : {rows : List ℕ} {i : ℕ} → Row rows i → linked rows i ≡ link_tree (linked rows) (end_at rows i) (node_at rows i)
@@ -107,7 +102,7 @@ module _ {rows rows' : List ℕ} {lo : ℕ} (links : Links rows lo) (kept : Kept
   from_kept (suc k) i a b =
       rw (node_kept i a, end_kept i a)
       (over (linked_from k rows') (linked_from k rows) (end_at rows i) (node_at rows i)
-      (sides_map {P = After rows i} (λ x h. from_kept k x (omega arith) h.1) (end_at rows i) (node_at rows i) (links.rises i a b)))
+      (sides_more (After rows i) _ (λ x h. from_kept k x (omega arith) h.1) (end_at rows i) (node_at rows i) (links.rises i a b)))
 
   pub linked_kept : (i : ℕ) → lo ≤ i → Inside rows i → linked rows' i ≡ linked rows i
   unfolding linked

@@ -6,6 +6,7 @@ use Rattle.limits.specs.Limits.{node_limit}
 use Rattle.definitions.specs.Tree.{Tree, constant, variable, one, two, weight}
 use Rattle.node.specs.declared.Node.{Node}
 use Rattle.node.specs.declared.Node.TheVariants.{Const, Var, Unary as UnaryNode, Binary as BinaryNode}
+use Rattle.node.specs.Sides.{Sides}
 use Rattle.node.specs.Nodes.{node_at, end_at, Packed, layout}
 
 -- the tree of a row, given the trees of its sides
@@ -26,13 +27,6 @@ linked rows i = linked_from node_limit rows i
 -- row i is one of the rows
 abbrev pub Inside : (rows : List ℕ) (i : ℕ) → Type 0
 Inside rows i = 4 * i + 3 < length rows
-
--- P holds of the sides
-abbrev pub Sides : (ℕ → Type 0) → (left : ℕ) → Node → Type 0
-Sides P left (Const k) = Unit {0}
-Sides P left (Var p) = Unit {0}
-Sides P left (UnaryNode o) = P left
-Sides P left (BinaryNode o right) = P left × P right
 
 -- the rows from lo on have sides after them, and words that tell their heads
 pub record Links (rows : List ℕ) (lo : ℕ) : Type 0 where

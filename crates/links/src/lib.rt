@@ -14,26 +14,14 @@ pub fn lay(rows: &[u32], i: u32, ws: &mut [u32], m: u32) -> u32
     let tag = rows[at];
     let word = rows[at + 1];
     let left = rows[at + 3];
-    let x = node::unpack(rows, i);
-    match x {
-        Node::Const(_) => {
-            node::pack(ws, m, tag, word, 0, m + 1);
-            m + 1
-        }
-        Node::Var(_) => {
-            node::pack(ws, m, tag, word, 0, m + 1);
-            m + 1
-        }
-        Node::Unary(_) => {
-            let end = lay(rows, left, ws, m + 1);
-            node::pack(ws, m, tag, word, 0, end);
-            end
-        }
+    let (right, end) = match node::unpack(rows, i) {
+        Node::Const(_) | Node::Var(_) => (0, m + 1),
+        Node::Unary(_) => (0, lay(rows, left, ws, m + 1)),
         Node::Binary(_, right) => {
             let mid = lay(rows, left, ws, m + 1);
-            let end = lay(rows, right, ws, mid);
-            node::pack(ws, m, tag, word, mid, end);
-            end
+            (mid, lay(rows, right, ws, mid))
         }
-    }
+    };
+    node::pack(ws, m, tag, word, right, end);
+    end
 }
