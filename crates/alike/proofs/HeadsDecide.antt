@@ -15,12 +15,14 @@ use Rattle.definitions.proofs.Sameness.{same_self}
 use Rattle.node.specs.declared.Node.{Node}
 use Rattle.node.specs.declared.Node.TheVariants.{Const, Var, Unary, Binary}
 use Rattle.node.specs.Nodes.{node_tag, node_word, same_head, node_of, node_at, end_at, Packed}
+use Rattle.node.specs.Sides.{Sides}
+use Rattle.node.proofs.Sides.{sides_more}
 use Rattle.node.proofs.Heads.{node_back, node_sized, Paired, consts, vars, unaries, binaries, head_pairs, one_same, two_same}
 use Rattle.tidying.proofs.Heads.{Headed, headed_differ}
 use Rattle.mix.specs.Mix.{variable_mix}
 use Rattle.mix.proofs.SameMixes.{mixes_apart}
-use Rattle.links.specs.Links.{Inside, link_tree, linked, Sides}
-use Rattle.links.proofs.Links.{sides_map, row_side, row_tree, row_rises, row_packed}
+use Rattle.links.specs.Links.{Inside, link_tree, linked}
+use Rattle.links.proofs.Links.{row_side, row_tree, row_rises, row_packed}
 use Rattle.alike.specs.Alike.{Mixed, Known, Comparable, Pairs, same_sides}
 
 -- the tree of a row has its node's head
@@ -91,11 +93,15 @@ one_head {rows} {mx} {a} {b} pair alike unpacked told left-a left-b =
     rw (← told, unpacked, left-a, left-b)
     record {
       trees = ap₂ same (row_tree pair.first.row) (row_tree pair.second.row);
-      first = sides_map (λ j h. known_side j pair.first h) (end_at rows a) (node_at rows a) (row_rises pair.first.row);
-      second = sides_map (λ j h. known_side j pair.second h) (end_at rows b) (node_at rows b) (row_rises pair.second.row);
+      first = sides_more _ _ (λ j h. known_side j pair.first h) (end_at rows a) (node_at rows a) (row_rises pair.first.row);
+      second = sides_more _ _ (λ j h. known_side j pair.second h) (end_at rows b) (node_at rows b) (row_rises pair.second.row);
       paired = head_pairs (node_at rows a) (node_at rows b) (node_sized rows a refl) (node_sized rows b refl) alike;
       right = right_word rows b (row_packed pair.second.row);
     }
+
+-- two pairs of rows, the second one exchanged
+pub exchanged : {rows mx : List ℕ} {l r x y : ℕ} → Pairs rows mx l r x y → Pairs rows mx l r y x
+exchanged p = record { left = p.left; right = p.right; first = p.second; second = p.first }
 
 -- the sides of nodes with one head, and their trees
 module _ (f : ℕ → Tree) (l k : ℕ) where
@@ -114,10 +120,12 @@ module _ (f : ℕ → Tree) (l k : ℕ) where
 
 module _ (P : ℕ → Type 0) (k : ℕ) where
   unary_side : {o : One} {y : Node} → Paired (Unary o) y → Sides P k y → P k
+  unfolding Sides
   unary_side (unaries o) h = h
 
   binary_sides : {o : Two} {r w : ℕ} {y : Node} → Paired (Binary o r) y → ((p : Two) (s : ℕ) → y ≡ Binary p s → s ≡ w)
       → Sides P k y → P k × P w
+  unfolding Sides
   binary_sides (binaries o r s) right h = (h.0, rw (← (right o s refl)) h.1)
 
 module _ {rows mx : List ℕ} {a b l k w : ℕ} {y : Node} where
@@ -130,6 +138,7 @@ module _ {rows mx : List ℕ} {a b l k w : ℕ} {y : Node} where
   -- over one side
   module _ {o : One} (h : OneHead rows mx a b (Unary o) y l k w) where
     pub unary_rows : (a < l) × Comparable rows mx l k
+    unfolding Sides
     unary_rows = (h.first.0, record { first = h.first.1; second = (unary_side (After rows mx b) k h.paired h.second).1 })
 
     pub unary_side_decides : {z : Bool} → z ≡ same (linked rows l) (linked rows k) → z ≡ same (linked rows a) (linked rows b)
@@ -138,6 +147,7 @@ module _ {rows mx : List ℕ} {a b l k w : ℕ} {y : Node} where
   -- over two sides
   module _ {o : Two} {r : ℕ} (h : OneHead rows mx a b (Binary o r) y l k w) where
     pub binary_rows : {s : ℕ} → s ≡ w → (a < min l r) × Pairs rows mx l r k s
+    unfolding Sides
     binary_rows e =
         let left = h.first.0 in
         let right = h.first.1 in

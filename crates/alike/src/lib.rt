@@ -4,10 +4,9 @@
 ghost use Rattle.std.specs.Prelude.{◌≡◌, ◌+◌, ◌*◌, ◌<◌, length, get_or, eqb};
 ghost use Rattle.definitions.specs.Same.{same};
 ghost use Rattle.links.specs.Links.{Inside, linked};
-ghost use Rattle.alike.specs.Alike.{Comparable, Pairs, same_both, same_sides};
+ghost use Rattle.alike.specs.Alike.{Comparable, Pairs, same_both};
 
 use node::Node;
-use operation::Two;
 
 // The number of row i's right side.
 fn right_of(rows: &[u32], i: u32) -> u32
@@ -25,54 +24,34 @@ pub fn same_mixes(mx: &[u64], a: u32, b: u32) -> bool
     mx[a as usize] == mx[b as usize]
 }
 
-// Sides are compared where their mixes agree, so nearly only where they are the same.
-#[cycle(same_both_same_rows_same_sides)]
+// Sides are compared where their mixes agree, so nearly only where they are the same: straight, or exchanged where that is allowed.
+#[cycle(same_both_same_rows)]
 pub fn same_rows(rows: &[u32], mx: &[u64], a: u32, b: u32) -> bool
     requires { Comparable rows.now mx.now a b }
     ensures { result ≡ same (linked rows.now a) (linked rows.now b) }
 {
-    if !same_mixes(mx, a, b) {
+    if !same_mixes(mx, a, b) || !node::same_heads(rows, a, b) {
         return false;
     }
-    if !node::same_heads(rows, a, b) {
-        return false;
-    }
-    let x = node::unpack(rows, a);
     let l = node::end_of(rows, a);
-    let k = node::end_of(rows, b);
-    match x {
-        Node::Const(_) => true,
-        Node::Var(_) => true,
-        Node::Unary(_) => same_rows(rows, mx, l, k),
-        Node::Binary(o, r) => same_sides(rows, mx, o, l, r, k, right_of(rows, b)),
+    let x = node::end_of(rows, b);
+    match node::unpack(rows, a) {
+        Node::Const(_) | Node::Var(_) => true,
+        Node::Unary(_) => same_rows(rows, mx, l, x),
+        Node::Binary(o, r) => {
+            let y = right_of(rows, b);
+            same_both(rows, mx, l, r, x, y)
+                || node::exchanges_sides(o) && same_both(rows, mx, l, r, y, x)
+        }
     }
-}
-
-// Straight, or exchanged where o allows it.
-#[cycle(same_both_same_rows_same_sides)]
-fn same_sides(rows: &[u32], mx: &[u64], o: Two, l: u32, r: u32, x: u32, y: u32) -> bool
-    requires { Pairs rows.now mx.now l r x y }
-    ensures { result ≡ same_sides o (linked rows.now l) (linked rows.now r)
-        (linked rows.now x) (linked rows.now y) }
-{
-    if same_both(rows, mx, l, r, x, y) {
-        return true;
-    }
-    if node::exchanges_sides(o) {
-        return same_both(rows, mx, l, r, y, x);
-    }
-    false
 }
 
 // Left with left and right with right.
-#[cycle(same_both_same_rows_same_sides)]
+#[cycle(same_both_same_rows)]
 fn same_both(rows: &[u32], mx: &[u64], l: u32, r: u32, x: u32, y: u32) -> bool
     requires { Pairs rows.now mx.now l r x y }
     ensures { result ≡ same_both (linked rows.now l) (linked rows.now r)
         (linked rows.now x) (linked rows.now y) }
 {
-    if same_rows(rows, mx, l, x) {
-        return same_rows(rows, mx, r, y);
-    }
-    false
+    same_rows(rows, mx, l, x) && same_rows(rows, mx, r, y)
 }
