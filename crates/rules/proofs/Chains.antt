@@ -2,13 +2,18 @@
 use mathlib.Core.Path.{◌≡◌, refl, sym, ◌∙◌}
 use mathlib.Core.Bool.{Bool, true, false, cond, ◌||◌}
 use mathlib.Core.List.{List, [], ◌∷◌}
-use Rattle.operation.specs.Codes.{minus_code, times_code, divide_code, recip_code}
+use Rattle.operation.specs.declared.UnaryCode.TheVariants.{Neg, Abs2, Recip}
+use Rattle.operation.specs.declared.BinaryCode.{BinaryCode}
+use Rattle.operation.specs.declared.BinaryCode.TheVariants.{Plus, Minus, Times, Divide}
 use Rattle.operation.specs.declared.One.TheVariants.{Unary}
 use Rattle.operation.specs.declared.Two.TheVariants.{Binary}
 use Rattle.definitions.specs.Tree.{Tree, one}
-use Rattle.tidying.specs.Codes.{neg_code, abs2_code}
 use Rattle.tidying.specs.Tidy.{Units, is_const, is_unary, argument, alone, Outcome, stays, becomes, again}
-use Rattle.tidying.specs.Tidy.{times_rules, divide_rules, plus_rules}
+use Rattle.tidying.specs.Tidy.{times_rules, divide_rules, plus_rules, code_rules}
+use Rattle.operation.specs.Numbers.{binary_number}
+use Rattle.operation.proofs.Numbers.{binary_number_tells}
+use lib.Dec.{eqb}
+use borrow.Author.Tests.{ne_eqb}
 use Rattle.definitions.proofs.Comparing.{or_neither}
 use Rattle.rules.specs.Moves.{goes, conjugates}
 
@@ -38,22 +43,22 @@ none_left left = sym left.told
 
 abbrev pub times_chain : Units → (l r : Tree) → List Rule
 times_chain u l r =
-    (is_const u.is_minus l, becomes (one (Unary neg_code) r))
-    ∷ (is_const u.is_minus r, becomes (one (Unary neg_code) l))
+    (is_const u.is_minus l, becomes (one (Unary Neg) r))
+    ∷ (is_const u.is_minus r, becomes (one (Unary Neg) l))
     ∷ (is_const u.is_one l, becomes (alone r))
     ∷ (is_const u.is_one r, becomes (alone l))
-    ∷ (is_unary recip_code l, again (Binary divide_code) r (argument l))
-    ∷ (is_unary recip_code r, again (Binary divide_code) l (argument r))
-    ∷ (conjugates r l, becomes (one (Unary abs2_code) l))
-    ∷ (conjugates l r, becomes (one (Unary abs2_code) r))
+    ∷ (is_unary Recip l, again (Binary Divide) r (argument l))
+    ∷ (is_unary Recip r, again (Binary Divide) l (argument r))
+    ∷ (conjugates r l, becomes (one (Unary Abs2) l))
+    ∷ (conjugates l r, becomes (one (Unary Abs2) r))
     ∷ []
 
 abbrev pub divide_chain : (l r : Tree) → List Rule
-divide_chain l r = (is_unary recip_code r, again (Binary times_code) l (argument r)) ∷ []
+divide_chain l r = (is_unary Recip r, again (Binary Times) l (argument r)) ∷ []
 
 abbrev pub plus_chain : (l r : Tree) → List Rule
 plus_chain l r =
-    (is_unary neg_code l, again (Binary minus_code) r (argument l)) ∷ (is_unary neg_code r, again (Binary minus_code) l (argument r)) ∷ []
+    (is_unary Neg l, again (Binary Minus) r (argument l)) ∷ (is_unary Neg r, again (Binary Minus) l (argument r)) ∷ []
 
 pub times_chain_lem : (u : Units) (l r : Tree) → Left (times_rules u l r) (times_chain u l r)
 times_chain_lem u l r = record { told = refl }
@@ -67,11 +72,11 @@ plus_chain_lem l r = record { told = refl }
 -- ---- where no rule fits
 
 remains : (u : Units) (t : Tree) {a : Bool} → a ≡ goes u t → a ≡ false →
-    (is_const u.is_minus t ≡ false) × (is_const u.is_one t ≡ false) × (is_unary recip_code t ≡ false)
+    (is_const u.is_minus t ≡ false) × (is_const u.is_one t ≡ false) × (is_unary Recip t ≡ false)
 remains u t told fails =
     let minus = is_const u.is_minus t in
     let one = is_const u.is_one t in
-    let all = or_neither (minus || one) (is_unary recip_code t) (sym told ∙ fails) in
+    let all = or_neither (minus || one) (is_unary Recip t) (sym told ∙ fails) in
     let units = or_neither minus one all.0 in
     (units.0, units.1, all.1)
 
@@ -87,8 +92,16 @@ no_times_rule u l r {a} {b} {x} {y} Goes-left goes-right conjugate-right conjuga
     let right = remains u r goes-right going.1 in
     rw (left.0, right.0, left.1, right.1, left.2, right.2, conjugate-right first.1, conjugate-left all.1)
 
-pub no_plus_rule : (l r : Tree) {a b : Bool} → a ≡ is_unary neg_code l → b ≡ is_unary neg_code r →
+pub no_plus_rule : (l r : Tree) {a b : Bool} → a ≡ is_unary Neg l → b ≡ is_unary Neg r →
     (a || b) ≡ false → plus_rules l r ≡ stays
 no_plus_rule l r {a} {b} left right none =
     let sides = or_neither a b none in
     rw (sym left ∙ sides.0, sym right ∙ sides.1)
+
+-- a code that no rule is for
+pub no_code_rule : (u : Units) (c : BinaryCode) (l r : Tree) → (c ≡ Times → ⊥) → (c ≡ Divide → ⊥) → (c ≡ Plus → ⊥) →
+    code_rules u c l r ≡ stays
+no_code_rule u c l r times divide plus = rw (other Times times, other Divide divide, other Plus plus)
+  where
+    other : (d : BinaryCode) → (c ≡ d → ⊥) → eqb (binary_number c) (binary_number d) ≡ false
+    other d apart = ne_eqb (binary_number c) (binary_number d) (λ e. apart (binary_number_tells c d e))

@@ -2,14 +2,17 @@
 use mathlib.Core.Path.{◌≡◌, sym, ap, ◌∙◌}
 use mathlib.Core.Bool.{Bool, true, false}
 use mathlib.Core.List.{List}
+use Rattle.std.proofs.Common.{Option, Some, None}
 use Prim.Native.Nat.{ℕ, ◌+◌, ◌-◌, ◌<◌, ◌≤◌, min}
 use native.Mathlib.Omega.{arith}
 use lib.ListN.{length, get_or}
 use lib.Dec.{eqb}
+use Rattle.operation.specs.declared.UnaryCode.{UnaryCode}
+use Rattle.operation.specs.declared.UnaryCode.TheVariants.{Conjugate}
+use Rattle.operation.specs.declared.BinaryCode.{BinaryCode}
 use Rattle.operation.specs.declared.Two.TheVariants.{Binary}
 use Rattle.definitions.specs.Tree.{Tree}
 use Rattle.definitions.specs.Same.{same}
-use Rattle.tidying.specs.Codes.{conjugate_code}
 use Rattle.tidying.specs.Units.{units_of}
 use Rattle.tidying.specs.Tidy.{is_unary, argument, Outcome, again, code_rules, first_rule, followed, joined}
 use Rattle.tidying.proofs.Rules.{joined_step}
@@ -18,7 +21,7 @@ use Rattle.links.specs.Links.{linked}
 use Rattle.alike.specs.Alike.{Pair, Mixed, Comparable}
 use Rattle.alike.proofs.HeadsDecide.{mixed_up, other_mixes_differ}
 use Rattle.rules.specs.declared.Move.{Move}
-use Rattle.rules.specs.declared.Move.TheVariants.{Stays, Neg, Alone, Abs2, Again}
+use Rattle.rules.specs.declared.Move.TheVariants.{Ends, Again}
 use Rattle.rules.specs.declared.Made.{Made}
 use Rattle.rules.specs.declared.Made.TheVariants as M
 use Rattle.rules.specs.Moves.{conjugates, outcome_of, From, Onward, Moved, Within, Settled}
@@ -34,9 +37,9 @@ module _ {rows : List ℕ} {l r : ℕ} (pair : Pair rows l r) where
   from_right = record { from = omega arith; row = pair.second }
 
   -- side j is a unary: its argument e goes on, beside the other side x
-  again_by : (c d x j : ℕ) {e : ℕ} {s : Outcome} → l + r ≡ x + j → From rows (min l r) x → From rows (min l r) j →
+  again_by : (c : BinaryCode) (d : UnaryCode) (x j : ℕ) {e : ℕ} {s : Outcome} → l + r ≡ x + j → From rows (min l r) x → From rows (min l r) j →
       is_unary d (linked rows j) ≡ true → e ≡ end_at rows j →
-      again (Binary c) (linked rows x) (argument (linked rows j)) ≡ s → Moved rows l r s (Again c x e)
+      again (Binary c) (linked rows x) (argument (linked rows j)) ≡ s → Moved rows l r s (Some (Again c x e))
   again_by c d x j sum other side h is told =
       let a = row_argument side.row d h is in
       record {
@@ -48,13 +51,13 @@ module _ {rows : List ℕ} {l r : ℕ} (pair : Pair rows l r) where
         );
       }
 
-  module _ (c d : ℕ) {e : ℕ} {s : Outcome} where
+  module _ (c : BinaryCode) (d : UnaryCode) {e : ℕ} {s : Outcome} where
     pub left_argument : is_unary d (linked rows l) ≡ true → e ≡ end_at rows l →
-        again (Binary c) (linked rows r) (argument (linked rows l)) ≡ s → Moved rows l r s (Again c r e)
+        again (Binary c) (linked rows r) (argument (linked rows l)) ≡ s → Moved rows l r s (Some (Again c r e))
     left_argument h is told = again_by c d r l (omega arith) from_right from_left h is told
 
     pub right_argument : is_unary d (linked rows r) ≡ true → e ≡ end_at rows r →
-        again (Binary c) (linked rows l) (argument (linked rows r)) ≡ s → Moved rows l r s (Again c l e)
+        again (Binary c) (linked rows l) (argument (linked rows r)) ≡ s → Moved rows l r s (Some (Again c l e))
     right_argument h is told = again_by c d l r (omega arith) from_left from_right h is told
 
 -- ---- conjugates
@@ -68,10 +71,10 @@ sides_exchanged {a = a} {b = b} both = (
 
 module _ {rows : List ℕ} {a b : ℕ} (pair : Pair rows a b) where
   -- row e is the argument of row a
-  module _ (h : is_unary conjugate_code (linked rows a) ≡ true) {e : ℕ} (is : e ≡ end_at rows a) where
+  module _ (h : is_unary Conjugate (linked rows a) ≡ true) {e : ℕ} (is : e ≡ end_at rows a) where
     pub conjugate_comparable : {mx : List ℕ} → Mixed rows mx (min a b) → Comparable rows mx e b
     conjugate_comparable mixed =
-        let x = row_argument pair.first conjugate_code h is in
+        let x = row_argument pair.first Conjugate h is in
         record {
           first = record { row = x.row; mixed = mixed_up (min a b) e (omega (arith, x.after)) mixed };
           second = record { row = pair.second; mixed = mixed_up (min a b) b (omega arith) mixed };
@@ -80,14 +83,14 @@ module _ {rows : List ℕ} {a b : ℕ} (pair : Pair rows a b) where
     pub conjugate_told : {z : Bool} → z ≡ same (linked rows e) (linked rows b) →
         z ≡ conjugates (linked rows a) (linked rows b)
     conjugate_told q =
-        rw h (q ∙ ap (λ (t : Tree). same t (linked rows b)) (row_argument pair.first conjugate_code h is).tree)
+        rw h (q ∙ ap (λ (t : Tree). same t (linked rows b)) (row_argument pair.first Conjugate h is).tree)
 
     -- other mixes: no conjugate
     pub conjugate_apart : {mx : List ℕ} → Mixed rows mx (min a b) → eqb (get_or mx e 0) (get_or mx b 0) ≡ false →
         false ≡ conjugates (linked rows a) (linked rows b)
     conjugate_apart mixed other = conjugate_told (other_mixes_differ (conjugate_comparable mixed) other)
 
-  pub conjugate_none : is_unary conjugate_code (linked rows a) ≡ false →
+  pub conjugate_none : is_unary Conjugate (linked rows a) ≡ false →
       false ≡ conjugates (linked rows a) (linked rows b)
   conjugate_none h = rw h
 
@@ -97,52 +100,45 @@ from_less : {rows : List ℕ} (lo : ℕ) {hi j : ℕ} → lo ≤ hi → From row
 from_less lo h f = record { from = omega (arith, f.from); row = f.row }
 
 within_less : (rows : List ℕ) (lo hi : ℕ) → lo ≤ hi → (m : Made) → Within rows hi m → Within rows lo m
-within_less rows lo hi h (M.Node c x y) w = (w.0, from_less lo h w.1, from_less lo h w.2)
+within_less rows lo hi h (M.Node c x y) w = (from_less lo h w.0, from_less lo h w.1)
 within_less rows lo hi h (M.Neg j) w = from_less lo h w
 within_less rows lo hi h (M.Alone j) w = from_less lo h w
 within_less rows lo hi h (M.Abs2 j) w = from_less lo h w
 
 -- m is what the first rule makes
-module _ (values : List ℕ) (c : ℕ) {rows : List ℕ} {l r : ℕ} (pair : Pair rows l r) {m : Move}
+module _ (values : List ℕ) (c : BinaryCode) {rows : List ℕ} {l r : ℕ} (pair : Pair rows l r) {m : Option Move}
     (moved : Moved rows l r (code_rules (units_of values) c (linked rows l) (linked rows r)) m) where
-  told : (k : Move) → m ≡ k →
+  told : (k : Option Move) → m ≡ k →
       followed (joined (units_of values)) (Binary c) (linked rows l) (linked rows r) (outcome_of (linked rows) k)
       ≡ joined (units_of values) (Binary c) (linked rows l) (linked rows r)
   unfolding first_rule
   told k e = rw (← e, moved.outcome) (sym (joined_step (units_of values) (Binary c) (linked rows l) (linked rows r)))
 
-  onward : (k : Move) → m ≡ k → Onward rows l r k
+  onward : (k : Option Move) → m ≡ k → Onward rows l r k
   onward k e = rw e at moved.onward
 
-  pub settled_stays : m ≡ Stays → c < 256 → Settled values rows c l r (M.Node c l r)
-  settled_stays e f = record { tree = told Stays e; within = (f, from_left pair, from_right pair) }
+  pub settled_stays : m ≡ None → Settled values rows c l r (M.Node c l r)
+  settled_stays e = record { tree = told None e; within = (from_left pair, from_right pair) }
 
-  module _ {j : ℕ} where
-    pub settled_neg : m ≡ Neg j → Settled values rows c l r (M.Neg j)
-    settled_neg e = record { tree = told (Neg j) e; within = onward (Neg j) e }
+  pub settled_ends : {z : Made} → m ≡ Some (Ends z) → Settled values rows c l r z
+  settled_ends {z} e = record { tree = told (Some (Ends z)) e; within = onward (Some (Ends z)) e }
 
-    pub settled_alone : m ≡ Alone j → Settled values rows c l r (M.Alone j)
-    settled_alone e = record { tree = told (Alone j) e; within = onward (Alone j) e }
-
-    pub settled_abs2 : m ≡ Abs2 j → Settled values rows c l r (M.Abs2 j)
-    settled_abs2 e = record { tree = told (Abs2 j) e; within = onward (Abs2 j) e }
-
-  module _ {d x y : ℕ} (e : m ≡ Again d x y) where
+  module _ {d : BinaryCode} {x y : ℕ} (e : m ≡ Some (Again d x y)) where
     -- the sides' numbers grow, and are not past the rows
     pub again_less : length rows + length rows - (x + y) < length rows + length rows - (l + r)
-    again_less = let o = onward (Again d x y) e in omega (arith, o.0, o.1.row.inside, o.2.row.inside)
+    again_less = let o = onward (Some (Again d x y)) e in omega (arith, o.0, o.1.row.inside, o.2.row.inside)
 
     pub again_rows : {mx : List ℕ} → Mixed rows mx (min l r) → Pair rows x y × Mixed rows mx (min x y)
     again_rows mixed =
-        let o = onward (Again d x y) e in (
+        let o = onward (Some (Again d x y)) e in (
           record { first = o.1.row; second = o.2.row },
           mixed_up (min l r) (min x y) (omega (arith, o.1.from, o.2.from)) mixed,
         )
 
     pub settled_again : {z : Made} → Settled values rows d x y z → Settled values rows c l r z
     settled_again {z} settled =
-        let o = onward (Again d x y) e in
+        let o = onward (Some (Again d x y)) e in
         record {
-          tree = settled.tree ∙ told (Again d x y) e;
+          tree = settled.tree ∙ told (Some (Again d x y)) e;
           within = within_less rows (min l r) (min x y) (omega (arith, o.1.from, o.2.from)) z settled.within;
         }

@@ -6,23 +6,27 @@ use Prim.Native.Nat.{ℕ, ◌+◌, ◌*◌, ◌<◌}
 use lib.ListN.{get_or}
 use lib.Dec.{eqb}
 use borrow.Author.Tests.{eq-eqb, ne_eqb}
+use Rattle.operation.specs.declared.UnaryCode.{UnaryCode}
+use Rattle.operation.specs.declared.UnaryCode.TheVariants.{Neg}
+use Rattle.operation.specs.Numbers.{unary_number}
 use Rattle.operation.specs.declared.One.TheVariants.{Unary, Power, Function1}
 use Rattle.operation.specs.declared.Two.TheVariants.{Binary, Choice, PowerMod, Function2}
 use Rattle.definitions.specs.Tree.{Tree}
 use Rattle.tidying.specs.Tidy.{is_const, is_unary, argument}
 use Rattle.node.specs.declared.Node.{Node}
 use Rattle.node.specs.declared.Node.TheVariants.{Const, Var, Unary as UnaryNode, Binary as BinaryNode}
+use Rattle.node.specs.Sides.{Sides}
 use Rattle.node.specs.Nodes.{node_tag, node_word, node_at, end_at}
-use Rattle.links.specs.Links.{link_tree, linked, Inside, Sides, Row}
+use Rattle.links.specs.Links.{link_tree, linked, Inside, Row}
 use Rattle.links.proofs.Links.{row_side, row_tree, row_rises, row_packed}
 
 -- ---- by the cases of a node
 
 module _ (tree : ℕ → Tree) (left : ℕ) where
   -- its tag and word tell whether it is a constant that matches, or the unary of a code
-  words_tell : (matches : ℕ → Bool) (c : ℕ) (x : Node) →
+  words_tell : (matches : ℕ → Bool) (c : UnaryCode) (x : Node) →
       (cond (eqb (node_tag x) 1) (matches (node_word x)) false ≡ is_const matches (link_tree tree left x))
-      × ((eqb (node_tag x) 3 && eqb (node_word x) c) ≡ is_unary c (link_tree tree left x))
+      × ((eqb (node_tag x) 3 && eqb (node_word x) (unary_number c)) ≡ is_unary c (link_tree tree left x))
   words_tell matches c (Const k) = (refl, refl)
   words_tell matches c (Var p) = (refl, refl)
   words_tell matches c (UnaryNode (Unary d)) = (refl, refl)
@@ -35,8 +39,9 @@ module _ (tree : ℕ → Tree) (left : ℕ) where
   words_tell matches c (BinaryNode (Function2 f) r) = (refl, refl)
 
   -- a unary's argument is its left side
-  unary_side : (P : ℕ → Type 0) (c : ℕ) (x : Node) → is_unary c (link_tree tree left x) ≡ true → Sides P left x →
+  unary_side : (P : ℕ → Type 0) (c : UnaryCode) (x : Node) → is_unary c (link_tree tree left x) ≡ true → Sides P left x →
       (tree left ≡ argument (link_tree tree left x)) × P left
+  unfolding Sides
   unary_side P c (Const k) h s = absurd (false≢true h)
   unary_side P c (Var p) h s = absurd (false≢true h)
   unary_side P c (UnaryNode o) h s = (refl, s)
@@ -55,20 +60,27 @@ module _ {rows : List ℕ} {j : ℕ} (row : Row rows j) where
     by_words : cond (eqb (get_or rows (4 * j) 0) 1) (matches (get_or rows (4 * j + 1) 0)) false ≡ is_const matches (linked rows j)
     by_words =
         rw ((row_packed row).0, (row_packed row).1, row_tree row)
-        (words_tell (linked rows) (end_at rows j) matches 0 (node_at rows j)).0
+        (words_tell (linked rows) (end_at rows j) matches Neg (node_at rows j)).0
 
     pub constant_told : get_or rows (4 * j) 0 ≡ 1 → matches (get_or rows (4 * j + 1) 0) ≡ is_const matches (linked rows j)
     constant_told h = rw (eq-eqb _ _ h) at by_words
 
-    pub other_told : (get_or rows (4 * j) 0 ≡ 1 → ⊥) → false ≡ is_const matches (linked rows j)
-    other_told h = rw (ne_eqb _ _ h) at by_words
+    pub other_told : (get_or rows (4 * j) 0 ≡ 1 → ⊥) → eqb (get_or rows (4 * j) 0) 1 ≡ is_const matches (linked rows j)
+    other_told h = ne_eqb _ _ h ∙ (rw (ne_eqb _ _ h) at by_words)
 
-  pub unary_told : (c : ℕ) → (eqb (get_or rows (4 * j) 0) 3 && eqb (get_or rows (4 * j + 1) 0) c) ≡ is_unary c (linked rows j)
-  unary_told c =
-      rw ((row_packed row).0, (row_packed row).1, row_tree row)
-      (words_tell (linked rows) (end_at rows j) (λ k. false) c (node_at rows j)).1
+  module _ (c : UnaryCode) where
+    by_code : (eqb (get_or rows (4 * j) 0) 3 && eqb (get_or rows (4 * j + 1) 0) (unary_number c)) ≡ is_unary c (linked rows j)
+    by_code =
+        rw ((row_packed row).0, (row_packed row).1, row_tree row)
+        (words_tell (linked rows) (end_at rows j) (λ k. false) c (node_at rows j)).1
 
-  pub row_argument : (c : ℕ) → is_unary c (linked rows j) ≡ true → {e : ℕ} → e ≡ end_at rows j → Argument rows j e
+    pub unary_told : get_or rows (4 * j) 0 ≡ 3 → eqb (get_or rows (4 * j + 1) 0) (unary_number c) ≡ is_unary c (linked rows j)
+    unary_told h = rw (eq-eqb _ _ h) at by_code
+
+    pub not_unary_told : (get_or rows (4 * j) 0 ≡ 3 → ⊥) → eqb (get_or rows (4 * j) 0) 3 ≡ is_unary c (linked rows j)
+    not_unary_told h = ne_eqb _ _ h ∙ (rw (ne_eqb _ _ h) at by_code)
+
+  pub row_argument : (c : UnaryCode) → is_unary c (linked rows j) ≡ true → {e : ℕ} → e ≡ end_at rows j → Argument rows j e
   row_argument c h is =
       let told = rw (row_tree row) at h in
       let side =

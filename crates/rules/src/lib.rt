@@ -8,176 +8,178 @@ ghost use Rattle.links.specs.Links.{Row, linked};
 ghost use Rattle.alike.specs.Alike.{Pair, Mixed};
 ghost use Rattle.rules.specs.Moves.{goes, conjugates, Moved, Settled};
 
-// What the first rule that fits makes of an operation over two rows.
-#[derive(Clone, Copy)]
-pub enum Move {
-    Stays,
-    Neg(u32),
-    Alone(u32),
-    Abs2(u32),
-    Again(u8, u32, u32),
-}
+use operation::{BinaryCode, UnaryCode};
 
-// What it is in the end.
+// What an operation over two rows is in the end.
 #[derive(Clone, Copy)]
 pub enum Made {
-    Node(u8, u32, u32),
+    Node(BinaryCode, u32, u32),
     Neg(u32),
     Alone(u32),
     Abs2(u32),
 }
 
-// Is row j a constant of the value 1, or −1?
-fn is_const(rows: &[u32], values: &[u8], j: u32, negative: bool) -> bool
-    requires { Row rows.now j }
-    ensures { result ≡ is_const (is_unit negative values.now) (linked rows.now j) }
-{
-    let at = 4 * (j as usize);
-    if rows[at] == 1 {
-        return values::is_unit(values, negative, rows[at + 1]);
-    }
-    false
+// What a rule that fits makes of it: its end, or an operation that goes through the rules again.
+#[derive(Clone, Copy)]
+pub enum Move {
+    Ends(Made),
+    Again(BinaryCode, u32, u32),
 }
 
-// Is it the unary of that code?
-fn is_unary(rows: &[u32], j: u32, code: u32) -> bool
-    requires { Row rows.now j }
-    ensures { result ≡ is_unary code (linked rows.now j) }
-{
-    let at = 4 * (j as usize);
-    (rows[at] == 3) & (rows[at + 1] == code)
+// What the rules look at: linked rows, the mixes of their trees, and the table's values.
+#[derive(Clone, Copy)]
+pub struct Rules<'a> {
+    pub rows: &'a [u32],
+    pub mx: &'a [u64],
+    pub values: &'a [u8],
 }
 
-// Is row a the conjugate of row b?
-fn is_conjugate(rows: &[u32], mx: &[u64], a: u32, b: u32) -> bool
-    requires { Pair rows.now a b × Mixed rows.now mx.now (min a b) }
-    ensures { result ≡ conjugates (linked rows.now a) (linked rows.now b) }
-{
-    if is_unary(rows, a, 19) {
-        return alike::same_rows(rows, mx, node::end_of(rows, a), b);
+impl Rules<'_> {
+    // Is row j a constant of the value 1, or −1?
+    fn is_const(&self, j: u32, negative: bool) -> bool
+        requires { Row self.now.rows.now j }
+        ensures { result ≡ is_const (is_unit negative self.now.values.now) (linked self.now.rows.now j) }
+    {
+        let at = 4 * (j as usize);
+        self.rows[at] == 1 && values::is_unit(self.values, negative, self.rows[at + 1])
     }
-    false
-}
 
-fn times_rules(rows: &[u32], mx: &[u64], values: &[u8], l: u32, r: u32) -> Move
-    requires { Pair rows.now l r × Mixed rows.now mx.now (min l r) }
-    ensures { Moved rows.now l r
-        (times_rules (units_of values.now) (linked rows.now l) (linked rows.now r)) result }
-{
-    if is_const(rows, values, l, true) {
-        return Move::Neg(r);
+    // Is it the unary of that code?
+    fn is_unary(&self, j: u32, code: UnaryCode) -> bool
+        requires { Row self.now.rows.now j }
+        ensures { result ≡ is_unary code (linked self.now.rows.now j) }
+    {
+        let at = 4 * (j as usize);
+        self.rows[at] == 3 && self.rows[at + 1] == code.code() as u32
     }
-    if is_const(rows, values, r, true) {
-        return Move::Neg(l);
-    }
-    if is_const(rows, values, l, false) {
-        return Move::Alone(r);
-    }
-    if is_const(rows, values, r, false) {
-        return Move::Alone(l);
-    }
-    if is_unary(rows, l, 11) {
-        return Move::Again(4, r, node::end_of(rows, l));
-    }
-    if is_unary(rows, r, 11) {
-        return Move::Again(4, l, node::end_of(rows, r));
-    }
-    if is_conjugate(rows, mx, r, l) {
-        return Move::Abs2(l);
-    }
-    if is_conjugate(rows, mx, l, r) {
-        return Move::Abs2(r);
-    }
-    Move::Stays
-}
 
-fn divide_rules(rows: &[u32], l: u32, r: u32) -> Move
-    requires { Pair rows.now l r }
-    ensures { Moved rows.now l r
-        (divide_rules (linked rows.now l) (linked rows.now r)) result }
-{
-    if is_unary(rows, r, 11) {
-        return Move::Again(3, l, node::end_of(rows, r));
+    // Is row a the conjugate of row b?
+    fn is_conjugate(&self, a: u32, b: u32) -> bool
+        requires { Pair self.now.rows.now a b × Mixed self.now.rows.now self.now.mx.now (min a b) }
+        ensures { result ≡ conjugates (linked self.now.rows.now a) (linked self.now.rows.now b) }
+    {
+        self.is_unary(a, UnaryCode::Conjugate)
+            && alike::same_rows(self.rows, self.mx, node::end_of(self.rows, a), b)
     }
-    Move::Stays
-}
 
-fn plus_rules(rows: &[u32], l: u32, r: u32) -> Move
-    requires { Pair rows.now l r }
-    ensures { Moved rows.now l r
-        (plus_rules (linked rows.now l) (linked rows.now r)) result }
-{
-    if is_unary(rows, l, 1) {
-        return Move::Again(2, r, node::end_of(rows, l));
-    }
-    if is_unary(rows, r, 1) {
-        return Move::Again(2, l, node::end_of(rows, r));
-    }
-    Move::Stays
-}
-
-fn code_rules(rows: &[u32], mx: &[u64], values: &[u8], code: u8, l: u32, r: u32) -> Move
-    requires { Pair rows.now l r × Mixed rows.now mx.now (min l r) }
-    ensures { Moved rows.now l r
-        (code_rules (units_of values.now) code (linked rows.now l) (linked rows.now r)) result }
-{
-    match code {
-        3 => times_rules(rows, mx, values, l, r),
-        4 => divide_rules(rows, l, r),
-        1 => plus_rules(rows, l, r),
-        _ => Move::Stays,
-    }
-}
-
-// May row a be the conjugate of row b? Its argument's mix tells, nearly always.
-fn may_conjugate(rows: &[u32], mx: &[u64], a: u32, b: u32) -> bool
-    requires { Pair rows.now a b × Mixed rows.now mx.now (min a b) }
-    ensures { result ≡ false → conjugates (linked rows.now a) (linked rows.now b) ≡ false }
-{
-    if is_unary(rows, a, 19) {
-        return alike::same_mixes(mx, node::end_of(rows, a), b);
-    }
-    false
-}
-
-// Is row j a constant of the value −1 or 1, or a reciprocal?
-fn goes_away(rows: &[u32], values: &[u8], j: u32) -> bool
-    requires { Row rows.now j }
-    ensures { result ≡ goes (units_of values.now) (linked rows.now j) }
-{
-    is_const(rows, values, j, true) | is_const(rows, values, j, false) | is_unary(rows, j, 11)
-}
-
-// May a rule fit? Where it says no, none does.
-pub fn may_fit(rows: &[u32], mx: &[u64], values: &[u8], code: u8, l: u32, r: u32) -> bool
-    requires { Pair rows.now l r × Mixed rows.now mx.now (min l r) }
-    ensures { result ≡ false → code_rules (units_of values.now) code (linked rows.now l)
-        (linked rows.now r) ≡ stays }
-{
-    match code {
-        3 => {
-            goes_away(rows, values, l)
-                | goes_away(rows, values, r)
-                | may_conjugate(rows, mx, r, l)
-                | may_conjugate(rows, mx, l, r)
+    fn times_rules(&self, l: u32, r: u32) -> Option<Move>
+        requires { Pair self.now.rows.now l r × Mixed self.now.rows.now self.now.mx.now (min l r) }
+        ensures { Moved self.now.rows.now l r
+            (times_rules (units_of self.now.values.now) (linked self.now.rows.now l) (linked self.now.rows.now r)) result }
+    {
+        if self.is_const(l, true) {
+            return Some(Move::Ends(Made::Neg(r)));
         }
-        4 => is_unary(rows, r, 11),
-        1 => is_unary(rows, l, 1) | is_unary(rows, r, 1),
-        _ => false,
+        if self.is_const(r, true) {
+            return Some(Move::Ends(Made::Neg(l)));
+        }
+        if self.is_const(l, false) {
+            return Some(Move::Ends(Made::Alone(r)));
+        }
+        if self.is_const(r, false) {
+            return Some(Move::Ends(Made::Alone(l)));
+        }
+        if self.is_unary(l, UnaryCode::Recip) {
+            return Some(Move::Again(BinaryCode::Divide, r, node::end_of(self.rows, l)));
+        }
+        if self.is_unary(r, UnaryCode::Recip) {
+            return Some(Move::Again(BinaryCode::Divide, l, node::end_of(self.rows, r)));
+        }
+        if self.is_conjugate(r, l) {
+            return Some(Move::Ends(Made::Abs2(l)));
+        }
+        if self.is_conjugate(l, r) {
+            return Some(Move::Ends(Made::Abs2(r)));
+        }
+        None
     }
-}
 
-// The rules until none fits.
-pub fn settle(rows: &[u32], mx: &[u64], values: &[u8], code: u8, l: u32, r: u32) -> Made
-    requires { Pair rows.now l r × Mixed rows.now mx.now (min l r) }
-    ensures { Settled values.now rows.now code l r result }
-{
-    let m = code_rules(rows, mx, values, code, l, r);
-    match m {
-        Move::Stays => Made::Node(code, l, r),
-        Move::Neg(j) => Made::Neg(j),
-        Move::Alone(j) => Made::Alone(j),
-        Move::Abs2(j) => Made::Abs2(j),
-        Move::Again(c, x, y) => settle(rows, mx, values, c, x, y),
+    fn divide_rules(&self, l: u32, r: u32) -> Option<Move>
+        requires { Pair self.now.rows.now l r }
+        ensures { Moved self.now.rows.now l r
+            (divide_rules (linked self.now.rows.now l) (linked self.now.rows.now r)) result }
+    {
+        if self.is_unary(r, UnaryCode::Recip) {
+            return Some(Move::Again(BinaryCode::Times, l, node::end_of(self.rows, r)));
+        }
+        None
+    }
+
+    fn plus_rules(&self, l: u32, r: u32) -> Option<Move>
+        requires { Pair self.now.rows.now l r }
+        ensures { Moved self.now.rows.now l r
+            (plus_rules (linked self.now.rows.now l) (linked self.now.rows.now r)) result }
+    {
+        if self.is_unary(l, UnaryCode::Neg) {
+            return Some(Move::Again(BinaryCode::Minus, r, node::end_of(self.rows, l)));
+        }
+        if self.is_unary(r, UnaryCode::Neg) {
+            return Some(Move::Again(BinaryCode::Minus, l, node::end_of(self.rows, r)));
+        }
+        None
+    }
+
+    // What the first rule that fits makes, if one does.
+    #[tactic(auto, unfolding(operation::specs::Numbers::binary_number))]
+    fn code_rules(&self, code: BinaryCode, l: u32, r: u32) -> Option<Move>
+        requires { Pair self.now.rows.now l r × Mixed self.now.rows.now self.now.mx.now (min l r) }
+        ensures { Moved self.now.rows.now l r
+            (code_rules (units_of self.now.values.now) code (linked self.now.rows.now l) (linked self.now.rows.now r)) result }
+    {
+        match code {
+            BinaryCode::Times => self.times_rules(l, r),
+            BinaryCode::Divide => self.divide_rules(l, r),
+            BinaryCode::Plus => self.plus_rules(l, r),
+            _ => None,
+        }
+    }
+
+    // May row a be the conjugate of row b? Its argument's mix tells, nearly always.
+    fn may_conjugate(&self, a: u32, b: u32) -> bool
+        requires { Pair self.now.rows.now a b × Mixed self.now.rows.now self.now.mx.now (min a b) }
+        ensures { result ≡ false → conjugates (linked self.now.rows.now a) (linked self.now.rows.now b) ≡ false }
+    {
+        self.is_unary(a, UnaryCode::Conjugate)
+            && alike::same_mixes(self.mx, node::end_of(self.rows, a), b)
+    }
+
+    // Is row j a constant of the value −1 or 1, or a reciprocal?
+    fn goes_away(&self, j: u32) -> bool
+        requires { Row self.now.rows.now j }
+        ensures { result ≡ goes (units_of self.now.values.now) (linked self.now.rows.now j) }
+    {
+        self.is_const(j, true) || self.is_const(j, false) || self.is_unary(j, UnaryCode::Recip)
+    }
+
+    // May a rule fit? Where it says no, none does.
+    #[tactic(auto, unfolding(operation::specs::Numbers::binary_number))]
+    pub fn may_fit(&self, code: BinaryCode, l: u32, r: u32) -> bool
+        requires { Pair self.now.rows.now l r × Mixed self.now.rows.now self.now.mx.now (min l r) }
+        ensures { result ≡ false → code_rules (units_of self.now.values.now) code (linked self.now.rows.now l)
+            (linked self.now.rows.now r) ≡ stays }
+    {
+        match code {
+            BinaryCode::Times => {
+                self.goes_away(l)
+                    | self.goes_away(r)
+                    | self.may_conjugate(r, l)
+                    | self.may_conjugate(l, r)
+            }
+            BinaryCode::Divide => self.is_unary(r, UnaryCode::Recip),
+            BinaryCode::Plus => self.is_unary(l, UnaryCode::Neg) | self.is_unary(r, UnaryCode::Neg),
+            _ => false,
+        }
+    }
+
+    // The rules until none fits.
+    pub fn settle(&self, code: BinaryCode, l: u32, r: u32) -> Made
+        requires { Pair self.now.rows.now l r × Mixed self.now.rows.now self.now.mx.now (min l r) }
+        ensures { Settled self.now.values.now self.now.rows.now code l r result }
+    {
+        match self.code_rules(code, l, r) {
+            None => Made::Node(code, l, r),
+            Some(Move::Ends(made)) => made,
+            Some(Move::Again(c, x, y)) => self.settle(c, x, y),
+        }
     }
 }

@@ -2,7 +2,7 @@
 use Rattle.std.proofs.Common.{sym, ◌∙◌}
 use Rattle.alike.proofs.HeadsDecide.{both_mixed}
 use Rattle.rules.proofs.Moves.{conjugate_comparable, conjugate_apart}
-use Rattle.rules.proofs.may_conjugate.Goals as goal
+use Rattle.rules.proofs.Rules.may_conjugate.Goals as goal
 
 pub same_mixes-requires : goal.same_mixes-requires
 same_mixes-requires c =

@@ -1,7 +1,7 @@
 -- The argument of a conjugate is compared.
 use Rattle.std.proofs.Common.{sym}
 use Rattle.rules.proofs.Moves.{conjugate_comparable, conjugate_told}
-use Rattle.rules.proofs.is_conjugate.Goals as goal
+use Rattle.rules.proofs.Rules.is_conjugate.Goals as goal
 
 pub same_rows-requires : goal.same_rows-requires
 same_rows-requires c = conjugate_comparable c.requires.0 (sym c.if-is_unary.ensures) c.end_of.ensures c.requires.1
