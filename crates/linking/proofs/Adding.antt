@@ -14,8 +14,10 @@ use Rattle.node.proofs.Heads.{node_back}
 use Rattle.node.proofs.Nodes.{equal_or}
 use Rattle.node.proofs.Stores.{Has, sets_have}
 use Rattle.tidying.proofs.Laying.{words_node, words_packed}
-use Rattle.links.specs.Links.{link_tree, linked, Inside, Sides, Links}
-use Rattle.links.proofs.Links.{sides_map, over, linked_node, Kept, links_kept, linked_kept}
+use Rattle.node.specs.Sides.{Sides}
+use Rattle.node.proofs.Sides.{sides_more}
+use Rattle.links.specs.Links.{link_tree, linked, Inside, Links}
+use Rattle.links.proofs.Links.{over, linked_node, Kept, links_kept, linked_kept}
 use Rattle.linking.specs.Rows.{Free, Added}
 
 -- a node's words
@@ -74,7 +76,7 @@ module _ {rows : List ℕ} {i : ℕ} (free : Free rows i) {tag word right : ℕ}
   tree_is =
       linked_node links i (omega arith) (omega (arith, whole, free.inside)) ∙ rw (node_is, end_is)
       (over (linked after) (linked rows) left m
-      (sides_map {P = After rows i} (λ j h. linked_kept free.links kept j (omega arith) h.1) left m sides))
+      (sides_more (After rows i) _ (λ j h. linked_kept free.links kept j (omega arith) h.1) left m sides))
 
   pub row_added : {t : Tree} {rows' : List ℕ} → link_tree (linked rows) left m ≡ t → rows' ≡ after → Added rows rows' i t
   row_added e stored =

@@ -10,25 +10,20 @@ use Rattle.node.specs.declared.Node.{Node}
 use Rattle.node.specs.declared.Node.TheVariants.{Const, Var, Unary, Binary}
 use Rattle.node.specs.Nodes.{node_at, end_at}
 use Rattle.node.proofs.Nodes.{equal_or}
-use Rattle.mix.specs.Mix.{constant_mix, variable_mix, one_mix, two_mix, mix_by, mix}
-use Rattle.links.specs.Links.{link_tree, linked, Inside, Sides, Row}
-use Rattle.links.proofs.Links.{sides_map, row_tree, row_rises}
+use Rattle.mix.specs.Mix.{one_mix, two_mix, mix_by, mix, node_mix}
+use Rattle.node.specs.Sides.{Sides}
+use Rattle.node.proofs.Sides.{sides_more}
+use Rattle.links.specs.Links.{link_tree, linked, Inside, Row}
+use Rattle.links.proofs.Links.{row_tree, row_rises}
 use Rattle.alike.specs.Alike.{Pair, Mixed}
 use Rattle.alike.proofs.HeadsDecide.{mixed_up}
 use Rattle.rules.specs.Moves.{From}
 
 -- ---- of one row
 
--- a node's mix, from those of its sides
-abbrev pub link_mix : (ℕ → ℕ) → (left : ℕ) → Node → ℕ
-link_mix f left (Const k) = constant_mix k
-link_mix f left (Var p) = variable_mix p
-link_mix f left (Unary o) = one_mix o (f left)
-link_mix f left (Binary o right) = two_mix o (f left) (f right)
-
 sides_mix : (f : ℕ → ℕ) (T : ℕ → Tree) (left : ℕ) (m : Node) → Sides (λ j. f j ≡ mix (T j)) left m
-    → link_mix f left m ≡ mix (link_tree T left m)
-unfolding mix_by
+    → node_mix f left m ≡ mix (link_tree T left m)
+unfolding mix_by Sides
 sides_mix f T left (Const k) h = refl
 sides_mix f T left (Var p) h = refl
 sides_mix f T left (Unary o) h = ap (one_mix o) h
@@ -38,23 +33,20 @@ sides_mix f T left (Binary o right) h = ap₂ (two_mix o) h.0 h.1
 abbrev pub MixAt : (rows mx : List ℕ) (j : ℕ) → Type 0
 MixAt rows mx j = (j < length mx) × (get_or mx j 0 ≡ mix (linked rows j))
 
--- row i was unpacked as x, with the left side l, and told to be z
-module _ {rows mx : List ℕ} {i : ℕ} (row : Row rows i) (mixed : Mixed rows mx (i + 1)) {x z : Node} {l : ℕ}
-    (unpacked : x ≡ node_at rows i) (left : l ≡ end_at rows i) (told : x ≡ z) where
-  pub sides_mixed : Sides (MixAt rows mx) l z
+-- row i was unpacked as x, with the left side l
+module _ {rows mx : List ℕ} {i : ℕ} (row : Row rows i) (mixed : Mixed rows mx (i + 1)) {x : Node} {l : ℕ}
+    (unpacked : x ≡ node_at rows i) (left : l ≡ end_at rows i) where
+  pub sides_mixed : Sides (MixAt rows mx) l x
   sides_mixed =
-      rw (left, ← told, unpacked)
-      (sides_map {P = λ j. (i < j) × Inside rows j} {Q = MixAt rows mx}
+      rw (left, unpacked)
+      (sides_more (λ j. (i < j) × Inside rows j) (MixAt rows mx)
       (λ j h. (omega (arith, mixed.wide, h.1), mixed.mixes j (omega (arith, h.0)) h.1))
       (end_at rows i) (node_at rows i) (row_rises row))
 
-  tree_is : linked rows i ≡ link_tree (linked rows) l z
-  tree_is = rw (left, ← told, unpacked) (row_tree row)
-
-  pub row_mixed : {r : ℕ} → r ≡ link_mix (λ j. get_or mx j 0) l z → r ≡ mix (linked rows i)
+  pub row_mixed : {r : ℕ} → r ≡ node_mix (λ j. get_or mx j 0) l x → r ≡ mix (linked rows i)
   row_mixed e =
-      let sided = sides_map {P = MixAt rows mx} (λ j h. h.1) l z sides_mixed in
-      e ∙ sides_mix (λ j. get_or mx j 0) (linked rows) l z sided ∙ sym (ap mix tree_is)
+      let sided = sides_more (MixAt rows mx) _ (λ j h. h.1) l x sides_mixed in
+      e ∙ sides_mix (λ j. get_or mx j 0) (linked rows) l x sided ∙ sym (ap mix (rw (left, unpacked) (row_tree row)))
 
 -- ---- of all rows
 

@@ -10,7 +10,10 @@ use Rattle.limits.specs.Limits.{index_end}
 use Rattle.operation.specs.declared.One.TheVariants.{Unary}
 use Rattle.operation.specs.declared.Two.TheVariants.{Binary, Choice, PowerMod, Function2}
 use Rattle.definitions.specs.Tree.{Tree, one, two}
-use Rattle.tidying.specs.Codes.{neg_code, abs2_code, real_code}
+use Rattle.operation.specs.declared.UnaryCode.{UnaryCode}
+use Rattle.operation.specs.declared.UnaryCode.TheVariants.{Neg, Abs2, Real}
+use Rattle.operation.specs.declared.BinaryCode.{BinaryCode}
+use Rattle.operation.specs.Numbers.{unary_number, binary_number, binary_code}
 use Rattle.tidying.specs.Units.{units_of}
 use Rattle.tidying.specs.Tidy.{Units, alone, stays, code_rules, first_rule, joined, tidy}
 use Rattle.tidying.proofs.Rules.{joined_step}
@@ -18,8 +21,10 @@ use Rattle.node.specs.declared.Node.{Node}
 use Rattle.node.specs.declared.Node.TheVariants.{Const, Var, Unary as UnaryNode, Binary as BinaryNode}
 use Rattle.node.specs.Nodes.{node_tag, node_at, end_at, Packed, node_tree, tree, Lies}
 use Rattle.node.proofs.Nodes.{equal_or, tree_node, table_sides}
-use Rattle.links.specs.Links.{link_tree, linked, Inside, Sides}
-use Rattle.links.proofs.Links.{sides_map, over, links_up, row_tree, row_rises, row_packed}
+use Rattle.node.specs.Sides.{Sides}
+use Rattle.node.proofs.Sides.{sides_more, lies_sides}
+use Rattle.links.specs.Links.{link_tree, linked, Inside}
+use Rattle.links.proofs.Links.{over, links_up, row_tree, row_rises, row_packed}
 use Rattle.rules.specs.declared.Made.{Made}
 use Rattle.rules.specs.declared.Made.TheVariants as M
 use Rattle.rules.specs.Moves.{From, made_tree, Within, Settled}
@@ -32,8 +37,8 @@ constant_row : (rows : List ℕ) (j : ℕ) → get_or rows (4 * j) 0 ≡ 1 → n
 unfolding node_at
 constant_row rows j e = rw e
 
-abbrev code_at : (ws : List ℕ) (i : ℕ) → ℕ
-code_at ws i = get_or ws (4 * i + 1) 0 % 256
+abbrev code_at : (ws : List ℕ) (i : ℕ) → BinaryCode
+code_at ws i = binary_code (get_or ws (4 * i + 1) 0 % 256)
 
 abbrev right_at : (ws : List ℕ) (i : ℕ) → ℕ
 right_at ws i = get_or ws (4 * i + 2) 0
@@ -58,12 +63,17 @@ alone_itself f left (UnaryNode o) other = refl
 alone_itself f left (BinaryNode o right) other = refl
 
 module _ {rows rows' : List ℕ} {i : ℕ} (free : Free rows i) {j : ℕ} (row : From rows (i + 1) j) where
-  pub constant_alone : get_or rows (4 * j) 0 ≡ 1 → rows' ≡ sets rows (4 * i) (3 ∷ real_code ∷ 0 ∷ j ∷ [])
+  -- the unary of a code over it
+  pub unary_added : (c : UnaryCode) → rows' ≡ sets rows (4 * i) (3 ∷ unary_number c ∷ 0 ∷ j ∷ [])
+      → Added rows rows' i (one (Unary c) (linked rows j))
+  unfolding Sides
+  unary_added c stored = row_added free (sized_words (UnaryNode (Unary c)) tt) j (later j (omega arith) row) refl stored
+
+  pub constant_alone : get_or rows (4 * j) 0 ≡ 1 → Added rows rows' i (one (Unary Real) (linked rows j))
       → Added rows rows' i (alone (linked rows j))
-  constant_alone e stored =
+  constant_alone e added =
       let constant-is = row_tree row.row ∙ ap (link_tree (linked rows) (end_at rows j)) (constant_row rows j e) in
-      row_added free (sized_words (UnaryNode (Unary real_code)) (omega arith)) j (later j (omega arith) row)
-      (ap (one (Unary real_code)) constant-is ∙ sym (ap alone constant-is)) stored
+      rw (ap (one (Unary Real)) constant-is ∙ sym (ap alone constant-is)) at added
 
   pub other_alone : (get_or rows (4 * j) 0 ≡ 1 → ⊥)
       → rows' ≡ sets rows (4 * i) (words_at rows j)
@@ -75,7 +85,7 @@ module _ {rows rows' : List ℕ} {i : ℕ} (free : Free rows i) {j : ℕ} (row :
       let packed = row_packed row.row in
       let itself = alone_itself (linked rows) left node (λ e. other (packed.0 ∙ e)) in
       row_added free (packed_words rows j packed) left
-      (sides_map {P = λ k. (j < k) × Inside rows k} {Q = After rows i} (λ k side. (omega (arith, row.from), side.1)) left node
+      (sides_more (λ k. (j < k) × Inside rows k) (After rows i) (λ k side. (omega (arith, row.from), side.1)) left node
       (row_rises row.row))
       (sym (ap alone (row_tree row.row) ∙ itself)) stored
 
@@ -83,23 +93,22 @@ module _ {rows rows' : List ℕ} {i : ℕ} (free : Free rows i) {j : ℕ} (row :
 
 -- row i was stored as m
 abbrev pub Stored : (rows rows' : List ℕ) (i : ℕ) → Made → Type 0
-Stored rows rows' i (M.Node c x y) = rows' ≡ sets rows (4 * i) (4 ∷ c ∷ y ∷ x ∷ [])
-Stored rows rows' i (M.Neg j) = rows' ≡ sets rows (4 * i) (3 ∷ neg_code ∷ 0 ∷ j ∷ [])
+Stored rows rows' i (M.Node c x y) = rows' ≡ sets rows (4 * i) (4 ∷ binary_number c ∷ y ∷ x ∷ [])
+Stored rows rows' i (M.Neg j) = Added rows rows' i (one (Unary Neg) (linked rows j))
 Stored rows rows' i (M.Alone j) = Added rows rows' i (alone (linked rows j))
-Stored rows rows' i (M.Abs2 j) = rows' ≡ sets rows (4 * i) (3 ∷ abs2_code ∷ 0 ∷ j ∷ [])
+Stored rows rows' i (M.Abs2 j) = Added rows rows' i (one (Unary Abs2) (linked rows j))
 
 module _ {rows : List ℕ} {i : ℕ} (free : Free rows i) where
   made_added : {rows' : List ℕ} {lo : ℕ} (m : Made) → i < lo → Within rows lo m → Stored rows rows' i m
       → Added rows rows' i (made_tree (linked rows) m)
+  unfolding Sides
   made_added (M.Node c x y) l h stored =
-      row_added free (sized_words (BinaryNode (Binary c) y) h.0) x (later x l h.1, later y l h.2) refl stored
-  made_added (M.Neg j) l h stored =
-      row_added free (sized_words (UnaryNode (Unary neg_code)) (omega arith)) j (later j l h) refl stored
+      row_added free (sized_words (BinaryNode (Binary c) y) tt) x (later x l h.0, later y l h.1) refl stored
+  made_added (M.Neg j) l h stored = stored
   made_added (M.Alone j) l h stored = stored
-  made_added (M.Abs2 j) l h stored =
-      row_added free (sized_words (UnaryNode (Unary abs2_code)) (omega arith)) j (later j l h) refl stored
+  made_added (M.Abs2 j) l h stored = stored
 
-  module _ {values : List ℕ} {code l r : ℕ} (left : From rows (i + 1) l) (right : From rows (i + 1) r) {m z : Made}
+  module _ {values : List ℕ} {code : BinaryCode} {l r : ℕ} (left : From rows (i + 1) l) (right : From rows (i + 1) r) {m z : Made}
       (settled : Settled values rows code l r m) (told : m ≡ z) where
     within : Within rows (min l r) z
     within = rw told at settled.within
@@ -109,10 +118,11 @@ module _ {rows : List ℕ} {i : ℕ} (free : Free rows i) where
     settled_added stored =
         rw (← settled.tree, told) (made_added z (omega (arith, left.from, right.from)) within stored)
 
-  pub alone_from : {values : List ℕ} {code l r j : ℕ} {m : Made} → From rows (i + 1) l → From rows (i + 1) r
-      → Settled values rows code l r m → m ≡ M.Alone j → From rows (i + 1) j
-  alone_from left right settled told =
-      let h = rw told at settled.within in
+  -- one row that it was made over is not before the next
+  pub side_from : {values : List ℕ} {code : BinaryCode} {l r j : ℕ} {m z : Made} → From rows (i + 1) l → From rows (i + 1) r
+      → Settled values rows code l r m → m ≡ z → (Within rows (min l r) z → From rows (min l r) j) → From rows (i + 1) j
+  side_from left right settled told take =
+      let h = take (rw told at settled.within) in
       record { from = omega (arith, left.from, right.from, h.from); row = h.row }
 
 -- ---- a node of the table
@@ -135,16 +145,10 @@ other_unruled u tree left (BinaryNode (Choice p) right) other = refl
 other_unruled u tree left (BinaryNode (PowerMod w) right) other = refl
 other_unruled u tree left (BinaryNode (Function2 f) right) other = refl
 
-lies_sides : (P : ℕ → Type 0) (ws : List ℕ) (i : ℕ) (m : Node) → Lies P ws i m → Sides P (i + 1) m
-lies_sides P ws i (Const k) h = tt
-lies_sides P ws i (Var p) h = tt
-lies_sides P ws i (UnaryNode o) h = h.0
-lies_sides P ws i (BinaryNode o right) h = (h.0, h.1)
-
 -- its tree over tidied sides is tidied
 unruled_tidied : (u : Units) (f g : ℕ → Tree) (i : ℕ) (m : Node) → Unruled u f (i + 1) m
     → Sides (λ j. f j ≡ tidy u (g j)) (i + 1) m → link_tree f (i + 1) m ≡ tidy u (node_tree g i m)
-unfolding tidy
+unfolding tidy Sides
 unruled_tidied u f g i (Const k) stay h = refl
 unruled_tidied u f g i (Var p) stay h = refl
 unruled_tidied u f g i (UnaryNode o) stay h = ap (one o) h
@@ -187,7 +191,7 @@ module _ {values ws rows : List ℕ} (i : ℕ) (done : Tidied values ws rows (i 
 
   sides_after : Sides (After rows i) (i + 1) node
   sides_after =
-      sides_map {P = λ j. (i < j) × (j < done.nodes)} {Q = After rows i} (λ j h. (h.0, omega (arith, done.whole))) (i + 1) node
+      sides_more (λ j. (i < j) × (j < done.nodes)) (After rows i) (λ j h. (h.0, omega (arith, done.whole))) (i + 1) node
       (lies_sides (λ j. (i < j) × (j < done.nodes)) ws i node (table_sides ws done.nodes done.table i node_below))
 
   tidied_by : {rows' : List ℕ} {t : Tree} → Added rows rows' i t → t ≡ tidy u (tree ws i) → Tidied values ws rows' i
@@ -204,6 +208,7 @@ module _ {values ws rows : List ℕ} (i : ℕ) (done : Tidied values ws rows (i 
 
   module _ (tag : get_or ws (4 * i) 0 ≡ 4) where
     both_after : After rows i (i + 1) × After rows i (right_at ws i)
+    unfolding Sides
     both_after = rw (binary_node ws i tag) at sides_after
 
     from_side : (j : ℕ) → After rows i j → From rows (i + 1) j
@@ -248,14 +253,14 @@ module _ {values ws rows : List ℕ} (i : ℕ) (done : Tidied values ws rows (i 
       → Entered values ws rows rows' i false
   copied_entered stay stored =
       let added = row_added next (packed_words ws i node_packed) (i + 1) sides_after refl stored in
-      let trees = sides_map {P = After rows i} (λ j h. done.trees j (omega arith) h.1) (i + 1) node sides_after in
+      let trees = sides_more (After rows i) _ (λ j h. done.trees j (omega arith) h.1) (i + 1) node sides_after in
       let tidied = unruled_tidied u (linked rows) (tree ws) i node stay trees in
       record {
         whole = added.whole;
         tidied = tidied_by added (tidied ∙ sym (ap (tidy u) tree_is));
         others = added.others;
         kept = λ _ later.
-            let same = sides_map {P = After rows i} (λ j h. later.trees j (omega arith) h.1) (i + 1) node sides_after in
+            let same = sides_more (After rows i) _ (λ j h. later.trees j (omega arith) h.1) (i + 1) node sides_after in
             let as_read = over (linked rows) (tree ws) (i + 1) node same ∙ next_left (tree ws) i node ∙ sym tree_is in
             record { trees = from_added (tree ws) added as_read later.trees };
       }

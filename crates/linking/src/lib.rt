@@ -2,7 +2,9 @@
 #![tactic(auto)]
 
 ghost use Rattle.std.specs.Prelude.{◌≡◌, false, ◌+◌, ◌*◌, ◌<◌, ◌≤◌, length};
+ghost use Rattle.operation.specs.declared.One.TheVariants.{Unary};
 ghost use Rattle.operation.specs.declared.Two.TheVariants.{Binary};
+ghost use Rattle.definitions.specs.Tree.{one};
 ghost use Rattle.node.specs.Nodes.{Table};
 ghost use Rattle.tidying.specs.Units.{units_of};
 ghost use Rattle.tidying.specs.Tidy.{alone, joined};
@@ -12,8 +14,16 @@ ghost use Rattle.alike.specs.Alike.{Mixed};
 ghost use Rattle.rules.specs.Moves.{From};
 ghost use Rattle.linking.specs.Rows.{Free, Added, Tidied, Kept, Entered};
 
-use node::Node;
-use rules::Made;
+use operation::{BinaryCode, UnaryCode};
+use rules::{Made, Rules};
+
+// Row i as the unary of a code over row j.
+fn link_unary(rows: &mut [u32], i: u32, code: UnaryCode, j: u32)
+    requires { Free rows.old i × From rows.old (i + 1) j }
+    ensures { Added rows.old rows.new i (one (Unary code) (linked rows.old j)) }
+{
+    node::pack(rows, i, 3, code.code() as u32, 0, j)
+}
 
 // Row i as 1 times row j: row j's own words, or the real part of a constant.
 fn link_alone(rows: &mut [u32], i: u32, j: u32)
@@ -26,24 +36,32 @@ fn link_alone(rows: &mut [u32], i: u32, j: u32)
     let right = rows[at + 2];
     let left = rows[at + 3];
     if tag == 1 {
-        node::pack(rows, i, 3, 17, 0, j);
+        link_unary(rows, i, UnaryCode::Real, j)
     } else {
-        node::pack(rows, i, tag, word, right, left);
+        node::pack(rows, i, tag, word, right, left)
     }
 }
 
 // Row i as the operation of a code over rows l and r, tidied.
-fn link_binary(rows: &mut [u32], mx: &[u64], values: &[u8], i: u32, code: u8, l: u32, r: u32)
+fn link_binary(
+    rows: &mut [u32],
+    mx: &[u64],
+    values: &[u8],
+    i: u32,
+    code: BinaryCode,
+    l: u32,
+    r: u32,
+)
     requires { Free rows.old i × From rows.old (i + 1) l × From rows.old (i + 1) r × Mixed rows.old mx.now (i + 1) }
     ensures { Added rows.old rows.new i
         (joined (units_of values.now) (Binary code) (linked rows.old l) (linked rows.old r)) }
 {
-    let m = rules::settle(rows, mx, values, code, l, r);
-    match m {
-        Made::Node(c, x, y) => node::pack(rows, i, 4, c as u32, y, x),
-        Made::Neg(j) => node::pack(rows, i, 3, 1, 0, j),
+    let rules = Rules { rows, mx, values };
+    match rules.settle(code, l, r) {
+        Made::Node(c, x, y) => node::pack(rows, i, 4, c.code() as u32, y, x),
+        Made::Neg(j) => link_unary(rows, i, UnaryCode::Neg, j),
         Made::Alone(j) => link_alone(rows, i, j),
-        Made::Abs2(j) => node::pack(rows, i, 3, 4, 0, j),
+        Made::Abs2(j) => link_unary(rows, i, UnaryCode::Abs2, j),
     }
 }
 
@@ -55,8 +73,9 @@ fn link_node(ws: &[u32], rows: &mut [u32], mx: &[u64], values: &[u8], i: u32) ->
 {
     let at = 4 * (i as usize);
     if ws[at] == 4 {
-        let code = (ws[at + 1] % 256) as u8;
-        if rules::may_fit(rows, mx, values, code, i + 1, ws[at + 2]) {
+        let code = BinaryCode::of((ws[at + 1] % 256) as u8);
+        let rules = Rules { rows, mx, values };
+        if rules.may_fit(code, i + 1, ws[at + 2]) {
             link_binary(rows, mx, values, i, code, i + 1, ws[at + 2]);
             return true;
         }
@@ -70,18 +89,8 @@ fn mix_row(rows: &[u32], mx: &[u64], i: u32) -> u64
     requires { Row rows.now i × Mixed rows.now mx.now (i + 1) }
     ensures { result ≡ mix (linked rows.now i) }
 {
-    let x = node::unpack(rows, i);
-    let s = mix::seed_of(x);
-    let l = node::end_of(rows, i);
-    match x {
-        Node::Const(_) => mix::mix_leaf(s),
-        Node::Var(_) => mix::mix_leaf(s),
-        Node::Unary(_) => mix::mix_one(s, mx[l as usize]),
-        Node::Binary(o, r) => {
-            let k = node::exchanges_sides(o);
-            mix::mix_two(s, k, mx[l as usize], mx[r as usize])
-        }
-    }
+    let left = node::end_of(rows, i);
+    mix::mix_node(node::unpack(rows, i), left, |j| mx[j as usize])
 }
 
 // Every row, from the last node to the first; whether a rule may have fitted.
@@ -90,11 +99,9 @@ pub fn link(ws: &[u32], rows: &mut [u32], mx: &mut [u64], values: &[u8], n: u32)
     ensures { Tidied values.now ws.now rows.new 0
         × (length rows.new ≡ 4 * n) × (result ≡ false → Kept ws.now rows.new 0) }
 {
-    let mut i = n;
     let mut changed = false;
-    while 0 < i {
-        i -= 1;
-        changed = link_node(ws, rows, mx, values, i) | changed;
+    for i in (0..n).rev() {
+        changed |= link_node(ws, rows, mx, values, i);
         mx[i as usize] = mix_row(rows, mx, i);
     }
     changed

@@ -20,14 +20,15 @@ link_binary-requires c =
 
 pub returns-then-may_fit : goal.returns-then-may_fit
 returns-then-may_fit c =
-    binary_entered c.args.i c.requires.0 c.requires.2 c.if-ws-at-eq4.true c.link_binary.ensures
+    binary_entered c.args.i c.requires.0 c.requires.2 c.if-ws-at-eq4.true (rw c.of-code.ensures at c.link_binary.ensures)
 
 pub returns : goal.returns
 returns c =
     let unruled : Unruled (units_of c.args.values.now) (linked c.args.rows.now) (c.args.i + 1) (node_at c.args.ws.now c.args.i) =
     elim c.if-ws-at-eq4.branch [
       | then-ws-at-eq4+else-may_fit w ↦
-          binary_unruled c.args.i c.requires.0 c.requires.2 w.if-ws-at-eq4.true (w.may_fit.ensures w.if-may_fit.false)
+          binary_unruled c.args.i c.requires.0 c.requires.2 w.if-ws-at-eq4.true
+          (rw w.of-code.ensures at (w.may_fit.ensures w.if-may_fit.false))
       | else-ws-at-eq4 w ↦ plain_unruled c.args.i c.requires.0 c.requires.2 w.if-ws-at-eq4.false
     ] in
     copied_entered c.args.i c.requires.0 c.requires.2 unruled c.pack.ensures
