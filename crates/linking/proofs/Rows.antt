@@ -19,7 +19,7 @@ use Rattle.tidying.specs.Tidy.{Units, alone, stays, code_rules, first_rule, join
 use Rattle.tidying.proofs.Rules.{joined_step}
 use Rattle.node.specs.declared.Node.{Node}
 use Rattle.node.specs.declared.Node.TheVariants.{Const, Var, Unary as UnaryNode, Binary as BinaryNode}
-use Rattle.node.specs.Nodes.{node_tag, node_at, end_at, Packed, node_tree, tree, Lies}
+use Rattle.node.specs.Nodes.{node_tag, node_at, end_at, Packed, node_tree, tree}
 use Rattle.node.proofs.Nodes.{equal_or, tree_node, table_sides}
 use Rattle.node.specs.Sides.{Sides}
 use Rattle.node.proofs.Sides.{sides_more, lies_sides}

@@ -13,6 +13,7 @@ use Rattle.tidying.proofs.TidyKeeps.{tidy_weight}
 use Rattle.node.specs.Nodes.{tree, end_at, roots, weights}
 use Rattle.node.proofs.Nodes.{end_weight}
 use Rattle.tidying.proofs.Forest.{roots_length, weights_append, roots_append}
+use Rattle.statement.specs.declared.Row.{Row}
 use Rattle.statement.specs.Rows.{root_at}
 use Rattle.statement.specs.Handover.{SheetHeld}
 use Rattle.links.specs.Links.{Inside, linked}
@@ -21,7 +22,7 @@ use Rattle.tidy.specs.Relaying.{root_trees, tidy_trees, Linked, Relaid, Neat}
 
 -- ---- a statement more
 
-module _ (tree_of : ℕ → Tree) (rows : List ℕ) where
+module _ (tree_of : ℕ → Tree) (rows : List Row) where
   -- the trees of the first k statements, and that of statement k
   abbrev pub first_trees : (k : ℕ) → List Tree
   first_trees k = root_trees tree_of rows 0 k
@@ -82,7 +83,7 @@ module _ (tree_of : ℕ → Tree) (rows : List ℕ) where
       rw (roots_more k) (get_or-append (roots 0 (first_trees k)) (weights (first_trees k) ∷ []) 0 j (omega (arith, counted k)))
 
 -- where two functions give each root the same tree, they give the same trees
-same_trees : (f g : ℕ → Tree) (rows : List ℕ) (j count : ℕ)
+same_trees : (f g : ℕ → Tree) (rows : List Row) (j count : ℕ)
     → ((k : ℕ) → k < j + count → f (root_at rows k) ≡ g (root_at rows k)) → root_trees f rows j count ≡ root_trees g rows j count
 unfolding root_trees
 same_trees f g rows j zero h = refl
@@ -91,14 +92,14 @@ same_trees f g rows j (suc count) h = ap₂ ◌∷◌ (h j (omega arith)) (same_
 -- ---- how much they weigh
 
 -- tidied trees no more than those as read
-tidied_lighter : (u : Units) (ws rows : List ℕ) (j count : ℕ)
+tidied_lighter : (u : Units) (ws : List ℕ) (rows : List Row) (j count : ℕ)
     → weights (root_trees (λ i. tidy u (tree ws i)) rows j count) ≤ weights (root_trees (tree ws) rows j count)
 unfolding root_trees weights
 tidied_lighter u ws rows j zero = omega arith
 tidied_lighter u ws rows j (suc count) =
     omega (arith, tidy_weight u (tree ws (root_at rows j)), tidied_lighter u ws rows (j + 1) count)
 
-module _ {ws rows : List ℕ} {n count : ℕ} (held : SheetHeld ws rows n count) where
+module _ {ws : List ℕ} {rows : List Row} {n count : ℕ} (held : SheetHeld ws rows n count) where
   -- the trees of the roots lie apart, in their order: those from row j on have room between a node before them and the last
   trees_apart : (j c lo : ℕ) → j + c ≡ count → lo ≤ n → (0 < c → lo ≤ root_at rows j)
       → lo + weights (root_trees (tree ws) rows j c) ≤ n
@@ -132,12 +133,13 @@ module _ {ws rows : List ℕ} {n count : ℕ} (held : SheetHeld ws rows n count)
         record {
           rises = tidied.links;
           long = held.long;
+          given = held.given;
           inside = root_inside;
           light = rw linked_trees (sheet_light values);
         }
 
     -- what is laid from them are the tidied trees
-    pub sheet_relaid : {ws' rows' : List ℕ} {m : ℕ} → Relaid (root_trees (linked links) rows 0 count) ws rows ws' rows' count m
+    pub sheet_relaid : {ws' : List ℕ} {rows' : List Row} {m : ℕ} → Relaid (root_trees (linked links) rows 0 count) ws rows ws' rows' count m
         → Relaid (tidy_trees values ws rows count) ws rows ws' rows' count m
     sheet_relaid laid = rw linked_trees at laid
 

@@ -1,7 +1,7 @@
 -- The comparison of two rows meets its contract: one law for each way out.
-use Rattle.std.proofs.Common.{◌≡◌, ℕ, ◌+◌, ◌*◌, Bool, true, List, get_or, arith, sym, ◌∙◌, inl, inr}
+use Rattle.std.proofs.Common.{ℕ, ◌+◌, ◌*◌, get_or, arith, sym, ◌∙◌, inl, inr}
 use Rattle.node.specs.Nodes.{node_at}
-use Rattle.node.specs.declared.Node.TheVariants.{Unary, Binary}
+use Rattle.node.specs.declared.Node.TheVariants.{Binary}
 use Rattle.alike.proofs.HeadsDecide.{other_mixes_differ, other_heads_differ, OneHead, one_head, const_rows_same}
 use Rattle.alike.proofs.HeadsDecide.{var_rows_same, unary_rows, unary_side_decides, binary_rows, exchanged, binary_sides_decide}
 use Rattle.alike.proofs.SidesDecide.{straight_decides, exchange_decides, sides_differ}

@@ -23,16 +23,16 @@ lay-requires-in-Binary t c =
 pub returns : goal.returns
 returns t c =
     elim c.match-unpack.branch [
-      in-Const w ↦
-        let put = rw (w.ws-is, w.right-is) at c.pack.ensures in
-        elim w.in-Const.is [
-          inl k ↦ rw w.right-is (leaf_laid c.requires _ tt (row_read c.requires.row c.unpack.ensures k.1) _ _ put)
-          | inr p ↦ rw w.right-is (leaf_laid c.requires _ tt (row_read c.requires.row c.unpack.ensures p.1) _ _ put)
-        ]
+      | in-Const w ↦
+          let put = rw (w.ws-is, w.right-is) at c.pack.ensures in
+          elim w.in-Const.is [
+            | inl k ↦ rw w.right-is (leaf_laid c.requires _ tt (row_read c.requires.row c.unpack.ensures k.1) _ _ put)
+            | inr p ↦ rw w.right-is (leaf_laid c.requires _ tt (row_read c.requires.row c.unpack.ensures p.1) _ _ put)
+          ]
       | in-Unary w ↦
-        let row = row_read c.requires.row c.unpack.ensures w.in-Unary.is in
-        rw w.right-is (unary_laid c.requires row w.lay.ensures (rw (w.ws-is, w.right-is) at c.pack.ensures))
+          let row = row_read c.requires.row c.unpack.ensures w.in-Unary.is in
+          rw w.right-is (unary_laid c.requires row w.lay.ensures (rw (w.ws-is, w.right-is) at c.pack.ensures))
       | in-Binary w ↦
-        let row = row_read c.requires.row c.unpack.ensures w.in-Binary.is in
-        rw w.right-is (binary_laid c.requires row w.lay-mid.ensures w.lay-in-Binary.ensures (rw (w.ws-is, w.right-is) at c.pack.ensures))
+          let row = row_read c.requires.row c.unpack.ensures w.in-Binary.is in
+          rw w.right-is (binary_laid c.requires row w.lay-mid.ensures w.lay-in-Binary.ensures (rw (w.ws-is, w.right-is) at c.pack.ensures))
     ]
