@@ -20,7 +20,7 @@ use Rattle.node.specs.Nodes.{node_at, end_at, node_tree}
 use Rattle.node.specs.Views.{view, Marked, Fresh}
 use Rattle.node.proofs.Nodes.{equal_or, laid_end}
 use Rattle.node.proofs.Views.{seen_node, view_unmarked, view_marked}
-use Rattle.compare.specs.Comparison.{Comparable, TwoTrees, SameSeen, SameView}
+use Rattle.compare.specs.Comparison.{Comparable, TwoTrees, SameView}
 
 -- ---- trees that may be compared
 
@@ -88,10 +88,6 @@ module _ (ws ms : List ℕ) (a b : ℕ) (trees : TwoTrees ws a b) where
   pub second_mark_decides : get_or ms a 0 ≡ 0 → Marked ms b → SameView ws ms a b false
   second_mark_decides z k temporary n f ends-a ends-b =
       sym (marked_differs_unmarked temporary ws ms n f b a trees.first ends-a k z).1
-
-  pub seen_decides : {r : Bool} → get_or ms a 0 ≡ 0 → get_or ms b 0 ≡ 0 → SameSeen ws ms a b r → SameView ws ms a b r
-  seen_decides y z h temporary n f ends-a ends-b =
-      h temporary n f ends-a ends-b ∙ sym (ap₂ same (view_unmarked temporary ws ms a y) (view_unmarked temporary ws ms b z))
 
 -- a mark decides
 pub ruleset mark_decides = (node_low, first_mark_decides, second_mark_decides)
