@@ -2,7 +2,7 @@
 use mathlib.Core.Path.{◌≡◌, refl, sym, ap, ap₂, ◌∙◌}
 use mathlib.Core.Bool.{false}
 use mathlib.Core.List.{List}
-use mathlib.Core.Logic.{◌≢◌}
+use mathlib.Core.Logic.{◌≢◌, ◌⊎◌, inl, inr}
 use Prim.Native.Nat.{ℕ, zero, suc, ◌+◌, ◌-◌, ◌<◌, ◌≤◌}
 use native.Mathlib.Omega.{arith}
 use lib.ListN.{get_or}
@@ -18,9 +18,9 @@ use Rattle.node.specs.declared.Node.TheVariants.{Const, Var, Unary as UnaryNode,
 use Rattle.node.specs.Nodes.{node_at, end_at, node_tree, Lies}
 use Rattle.node.specs.Views.{seen, view, Marked, Fresh}
 use Rattle.node.proofs.Nodes.{equal_or, Side, unpacked_sides}
-use Rattle.node.proofs.Views.{unpacked_seen, view_unmarked, view_marked}
-use Rattle.mix.specs.Mix.{constant_mix, variable_mix, temporary_mix, one_mix, two_mix, mix_by}
-use Rattle.mix.proofs.SameMixes.{mixes_apart}
+use Rattle.node.proofs.Views.{unpacked_seen, view_marked}
+use Rattle.mix.specs.Mix.{node_seed, stirred, constant_mix, variable_mix, temporary_mix, one_mix, two_mix, mix_by}
+use Rattle.mix.proofs.SameMixes.{seed_mixes_constant, seed_mixes_variable, mixes_apart}
 use Rattle.compare.specs.Comparison.{Comparable, SameSeen}
 use Rattle.compare.proofs.HeadsDecide.{side_comparable}
 use Rattle.compare.proofs.MarksDecide.{tree_starts, different}
@@ -72,16 +72,21 @@ module _ {ws : List ℕ} {i : ℕ} {r : Node} (h : Comparable ws i) (u : r ≡ n
     node_mixed m e k temporary n f l =
         k temporary n f l ∙ ap (tree_mix temporary) (sym (unpacked_seen temporary ws ms i r m u e h.laid))
 
-    pub const_mixed : {k x : ℕ} → r ≡ Const k → x ≡ constant_mix k → SeenMix ws ms i x
+    const_mixed : {k x : ℕ} → r ≡ Const k → x ≡ constant_mix k → SeenMix ws ms i x
     unfolding mix_by
     const_mixed {k} e q = node_mixed (Const k) e (λ temporary n f l. q)
 
-    pub var_mixed : {p : Loc} {x : ℕ} → r ≡ Var p → x ≡ variable_mix p → SeenMix ws ms i x
+    var_mixed : {p : Loc} {x : ℕ} → r ≡ Var p → x ≡ variable_mix p → SeenMix ws ms i x
     unfolding mix_by
     var_mixed {p} e q =
         node_mixed (Var p) e
         (λ temporary n f l.
         q ∙ sym (place_mixed temporary p (λ k. f.unread i k p (tree_starts h l) (sym u ∙ e)) temporary_limit))
+
+    pub leaf_mixed : {s x : ℕ} → s ≡ node_seed r → ((k : ℕ) × (r ≡ Const k)) ⊎ ((p : Loc) × (r ≡ Var p)) → x ≡ stirred s →
+        SeenMix ws ms i x
+    leaf_mixed seed (inl e) q = const_mixed e.1 (seed_mixes_constant seed e.1 q)
+    leaf_mixed seed (inr e) q = var_mixed e.1 (seed_mixes_variable seed e.1 q)
 
     pub one_mixed : {o : One} {a x : ℕ} → r ≡ UnaryNode o → ViewMix ws ms (i + 1) a → x ≡ one_mix o a → SeenMix ws ms i x
     unfolding mix_by
@@ -107,9 +112,6 @@ module _ (ws ms : List ℕ) (i : ℕ) where
       q
       ∙ sym (ap (tree_mix temporary) (view_marked temporary ws ms i k)
       ∙ temporary_mixed temporary f.injective temporary_limit (get_or ms i 0 - 1) (omega (arith, low i, k)))
-
-  pub unmarked_mixed : {x : ℕ} → get_or ms i 0 ≡ 0 → SeenMix ws ms i x → ViewMix ws ms i x
-  unmarked_mixed e k temporary n f l = k temporary n f l ∙ ap (tree_mix temporary) (sym (view_unmarked temporary ws ms i e))
 
 -- ---- what a search makes of it
 

@@ -14,14 +14,13 @@ pub fn mix_view(ws: &[u32], ms: &PerNode, i: u32) -> u64
     requires { Comparable ws.now i × MarksLow ms.now }
     ensures { ViewMix ws.now ms.now i result }
 {
-    let m = ms[i as usize];
-    if m != 0 {
-        return mix::mix_temporary(m - 1);
+    match ms[i as usize].checked_sub(1) {
+        Some(temporary) => mix::mix_temporary(temporary),
+        None => mix_seen(ws, ms, i),
     }
-    mix_seen(ws, ms, i)
 }
 
-// And without its mark.
+// And without its mark. Not by mix::mix_node: tried, and the proof didn't close, as its closure's clauses can't name node i.
 #[cycle(mix_seen_mix_view)]
 #[tactic(auto, using(compare::proofs::MarksDecide::node_low))]
 pub fn mix_seen(ws: &[u32], ms: &PerNode, i: u32) -> u64
@@ -31,8 +30,7 @@ pub fn mix_seen(ws: &[u32], ms: &PerNode, i: u32) -> u64
     let node = node::unpack(ws, i);
     let s = mix::seed_of(node);
     match node {
-        Node::Const(_) => mix::mix_leaf(s),
-        Node::Var(_) => mix::mix_leaf(s),
+        Node::Const(_) | Node::Var(_) => mix::mix_leaf(s),
         Node::Unary(_) => {
             let a = mix_view(ws, ms, i + 1);
             mix::mix_one(s, a)

@@ -2,9 +2,9 @@
 use Rattle.std.proofs.Common.{arith}
 use Rattle.limits.specs.Limits.{depth_limit}
 use Rattle.node.proofs.Nodes.{laid_room}
-use Rattle.mix.proofs.SameMixes.{seed_mixes_constant, seed_mixes_variable, seed_mixes_one, seed_mixes_two}
+use Rattle.mix.proofs.SameMixes.{seed_mixes_one, seed_mixes_two}
 use Rattle.compare.proofs.MarksDecide.{node_low}
-use Rattle.keys.proofs.Mixing.{const_mixed, var_mixed, one_side, one_mixed, left_side, right_side, right_after, two_mixed}
+use Rattle.keys.proofs.Mixing.{leaf_mixed, one_side, one_mixed, left_side, right_side, right_after, two_mixed}
 use Rattle.keys.proofs.+mix_seen_mix_view.Goals as goal
 
 pub mix_seen-unpack-node-requires : goal.mix_seen-unpack-node-requires
@@ -28,13 +28,7 @@ mix_seen-mix_view-b-requires t c =
 
 pub mix_seen-returns-in-Const : goal.mix_seen-returns-in-Const
 mix_seen-returns-in-Const t c =
-    let e = c.in-Const.is in
-    const_mixed c.requires.0 c.unpack-node.ensures _ e (seed_mixes_constant c.seed_of-s.ensures e c.mix_leaf.ensures)
-
-pub mix_seen-returns-in-Var : goal.mix_seen-returns-in-Var
-mix_seen-returns-in-Var t c =
-    let e = c.in-Var.is in
-    var_mixed c.requires.0 c.unpack-node.ensures _ e (seed_mixes_variable c.seed_of-s.ensures e c.mix_leaf-in-Var.ensures)
+    leaf_mixed c.requires.0 c.unpack-node.ensures _ c.seed_of-s.ensures c.in-Const.is c.mix_leaf.ensures
 
 pub mix_seen-returns-in-Unary : goal.mix_seen-returns-in-Unary
 mix_seen-returns-in-Unary t c =
