@@ -2,21 +2,21 @@
 use mathlib.Core.Path.{◌≡◌, refl, sym, ap, ◌∙◌}
 use mathlib.Core.Bool.{cond}
 use mathlib.Core.List.{List}
-use Prim.Native.Nat.{ℕ, ◌+◌, ◌-◌, ◌*◌, ◌<◌, ◌≤◌}
+use Prim.Native.Nat.{ℕ, ◌+◌, ◌-◌, ◌<◌, ◌≤◌}
 use native.Mathlib.Omega.{arith}
 use lib.ListN.{length, get_or, set, length-set}
-use lib.Seq.{sets, get_or-set_same, get_or-set_other}
+use lib.Seq.{get_or-set_same, get_or-set_other}
 use lib.Dec.{eqb}
 use borrow.Author.Tests.{eq-eqb, ne_eqb}
-use Rattle.limits.specs.Limits.{node_limit, row_limit}
+use Rattle.limits.specs.Limits.{node_limit}
 use Rattle.symbol.specs.declared.Loc.{Loc}
 use Rattle.node.specs.Views.{seen}
 use Rattle.node.proofs.Nodes.{below_or, equal_or}
 use Rattle.statement.specs.declared.Row.{Row}
 use Rattle.statement.specs.declared.Row.TheVariants.{Given, Copied, Kept, Passed, Made}
-use Rattle.statement.specs.Rows.{link_end, RoomFor, row_words, call_words, row_at, rows_from}
+use Rattle.statement.specs.Rows.{RoomFor, Calls, row_at, rows_from}
 use Rattle.statement.specs.Rowing.{All, OnRoot, Unmade}
-use Rattle.statement.proofs.RowsPut.{row_back, row_before, kind_before, unmade_kind, call_back, link_had, link_back, key_back}
+use Rattle.statement.proofs.RowsPut.{row_back, row_kept}
 use Rattle.statement.proofs.EveryRow.{all_row}
 use Rattle.keys.specs.Keys.{tree_mix, SeenMix}
 use Rattle.calls.specs.Index.{slot, key_of, OnMade, LastOf, Linked, Keyed}
@@ -28,18 +28,26 @@ on_unmade P (Given p b) u = tt
 on_unmade P (Copied p k) u = tt
 on_unmade P (Kept m b) u = tt
 on_unmade P (Passed m k) u = tt
-on_unmade P (Made m b) u = absurd u
+on_unmade P (Made m b link key) u = absurd u
+
+unmade_calls : (r : Row) → Unmade r → Calls r → ⊥
+unmade_calls (Given p b) u c = c
+unmade_calls (Copied p k) u c = c
+unmade_calls (Kept m b) u c = c
+unmade_calls (Passed m k) u c = c
+unmade_calls (Made m b link key) u c = u
 
 on_root : (P Q : ℕ → Type 0) (r : Row) → OnMade P r → OnRoot (λ b. P b → Q b) r → OnMade Q r
 on_root P Q (Given p b) h k = tt
 on_root P Q (Copied p j) h k = tt
 on_root P Q (Kept m b) h k = tt
 on_root P Q (Passed m j) h k = tt
-on_root P Q (Made m b) h k = k h
+on_root P Q (Made m b link key) h k = k h
 
 -- ---- no rows yet
 
-pub keyed_none : (ws ms rs : List ℕ) {heads : List ℕ} → length heads ≡ node_limit → ((s : ℕ) → get_or heads s 0 ≡ 0) →
+pub keyed_none : (ws ms : List ℕ) (rs : List Row) {heads : List ℕ} → length heads ≡ node_limit →
+    ((s : ℕ) → get_or heads s 0 ≡ 0) →
     Keyed ws ms rs heads 0
 keyed_none ws ms rs {heads} wide blank =
     record {
@@ -59,7 +67,7 @@ keyed_none ws ms rs {heads} wide blank =
 
 -- ---- marks change, and the rows' trees are seen as before
 
-pub keyed_still : {ws ms rs heads : List ℕ} {count : ℕ} (ms' : List ℕ) →
+pub keyed_still : {ws ms : List ℕ} {rs : List Row} {heads : List ℕ} {count : ℕ} (ms' : List ℕ) →
     ((temporary : ℕ → Loc) → All (OnRoot (λ b. seen temporary ws ms' b ≡ seen temporary ws ms b)) (rows_from rs 0 count)) →
     Keyed ws ms rs heads count → Keyed ws ms' rs heads count
 keyed_still {ws} {ms} {rs} {heads} {count} ms' still x =
@@ -84,14 +92,14 @@ keyed_still {ws} {ms} {rs} {heads} {count} ms' still x =
     mix_still k (Copied p j) e = tt
     mix_still k (Kept m b) e = same_mix k b e
     mix_still k (Passed m j) e = tt
-    mix_still k (Made m b) e = same_mix k b e
+    mix_still k (Made m b link key) e = same_mix k b e
 
--- ---- words are put after count rows, and the mixes before are kept
+-- ---- a row is put after count rows, and the mixes before are kept
 
-module _ (mix_at mixAt' : ℕ → ℕ) (rs : List ℕ) (count : ℕ) (xs : List ℕ)
+module _ (mix_at mixAt' : ℕ → ℕ) (rs : List Row) (count : ℕ) (row : Row)
     (kept : (j : ℕ) → j < count → mixAt' j ≡ mix_at j) where
-  abbrev rs' : List ℕ
-  rs' = sets rs (3 * count) xs
+  abbrev rs' : List Row
+  rs' = set rs count row
 
   -- a chain is kept
   last_kept : {s v : ℕ} (high : ℕ) → high ≤ count → LastOf mix_at rs s high v → LastOf mixAt' rs' s high v
@@ -99,9 +107,9 @@ module _ (mix_at mixAt' : ℕ → ℕ) (rs : List ℕ) (count : ℕ) (xs : List 
       let below = x.below in
       record {
         below = below;
-        linked = λ p. rw (kind_before rs count xs (v - 1) (omega arith)) (x.linked p);
+        linked = λ p. rw (row_kept rs count row (v - 1) (omega arith)) (x.linked p);
         own = λ p. ap slot (kept (v - 1) (omega arith)) ∙ x.own p;
-        none = λ j a b e. rw (row_before rs count xs j (omega arith)) (x.none j a b (ap slot (sym (kept j (omega arith))) ∙ e));
+        none = λ j a b e. rw (row_kept rs count row j (omega arith)) (x.none j a b (ap slot (sym (kept j (omega arith))) ∙ e));
       }
 
   -- and goes on past a row that is not of it
@@ -121,46 +129,45 @@ module _ (mix_at mixAt' : ℕ → ℕ) (rs : List ℕ) (count : ℕ) (xs : List 
   -- the links and keys before are kept
   goes_kept : Linked mix_at rs count → Linked mixAt' rs' count
   goes_kept goes k l h =
-      let kind = kind_before rs count xs k l in
-      let gone = goes k l (rw kind at h) in
-      rw (kept k l, kind) (last_kept k (omega arith) gone.0, gone.1)
+      let same = row_kept rs count row k l in
+      let gone = goes k l (rw same at h) in
+      rw (kept k l, same) (last_kept k (omega arith) gone.0, gone.1)
 
 -- ---- a row that makes no call is put
 
-module _ (rs : List ℕ) (count : ℕ) (row : Row) (unmade : Unmade row) (room : RoomFor rs (count + 1)) where
-  here : row_at (sets rs (3 * count) (row_words row)) count ≡ row
+module _ (rs : List Row) (count : ℕ) (row : Row) (unmade : Unmade row) (room : RoomFor rs (count + 1)) where
+  here : row_at (set rs count row) count ≡ row
   here = row_back rs count row (omega arith)
 
-  pub keyed_put : {ws ms heads : List ℕ} → Keyed ws ms rs heads count →
-      Keyed ws ms (sets rs (3 * count) (row_words row)) heads (count + 1)
+  pub keyed_put : {ws ms heads : List ℕ} → Keyed ws ms rs heads count → Keyed ws ms (set rs count row) heads (count + 1)
   keyed_put x =
       let mix_at = x.mix_at in
       record {
         mix_at = mix_at;
         mixed = λ k l.
-            below_or k count (λ b. rw (row_before rs count (row_words row) k b) (x.mixed k b))
+            below_or k count (λ b. rw (row_kept rs count row k b) (x.mixed k b))
             (λ b. let q : k ≡ count = omega arith in rw (q, here) (on_unmade _ row unmade));
-        starts = λ s l. last_more mix_at mix_at rs count (row_words row) (λ j b. refl) (x.starts s l) (λ e. rw here unmade);
+        starts = λ s l. last_more mix_at mix_at rs count row (λ j b. refl) (x.starts s l) (λ e. rw here unmade);
         goes = λ k l h.
-            below_or k count (λ b. goes_kept mix_at mix_at rs count (row_words row) (λ j c. refl) x.goes k b h)
+            below_or k count (λ b. goes_kept mix_at mix_at rs count row (λ j c. refl) x.goes k b h)
             (λ b.
             let q : k ≡ count = omega arith in
-            absurd (omega (arith, rw q at h, unmade_kind rs count row unmade (omega arith))));
+            absurd (unmade_calls row unmade (rw (q, here) at h)));
         wide = x.wide;
       }
 
 -- ---- a call is put, at the head of its chain
 
-module _ (i m next : ℕ) {ws ms rs heads : List ℕ} {count : ℕ} (room : RoomFor rs (count + 1)) (few : count < row_limit)
+module _ (i m next : ℕ) {ws ms : List ℕ} {rs : List Row} {heads : List ℕ} {count : ℕ} (room : RoomFor rs (count + 1))
     (ours : SeenMix ws ms i m) (x : Keyed ws ms rs heads count) where
   abbrev link : ℕ
   link = get_or heads (slot m) 0
 
-  abbrev words : List ℕ
-  words = call_words link (key_of m) next i
+  abbrev row : Row
+  row = Made next i link (key_of m)
 
-  abbrev called : List ℕ
-  called = sets rs (3 * count) words
+  abbrev called : List Row
+  called = set rs count row
 
   abbrev mixes : ℕ → ℕ
   mixes j = cond (eqb j count) m (x.mix_at j)
@@ -174,8 +181,8 @@ module _ (i m next : ℕ) {ws ms rs heads : List ℕ} {count : ℕ} (room : Room
   low : slot m < node_limit
   low = omega arith
 
-  link_low : link < link_end
-  link_low = omega (arith, (x.starts (slot m) low).below)
+  row_here : row_at called count ≡ row
+  row_here = row_back rs count row (omega arith)
 
   head_here : get_or (set heads (slot m) (count + 1)) (slot m) 0 ≡ count + 1
   head_here = get_or-set_same heads (slot m) (count + 1) 0 (omega (arith, x.wide))
@@ -186,7 +193,7 @@ module _ (i m next : ℕ) {ws ms rs heads : List ℕ} {count : ℕ} (room : Room
       let q : count + 1 - 1 ≡ count = omega arith in
       record {
         below = omega arith;
-        linked = λ p. rw q (link_had rs count link (key_of m) next i (omega arith));
+        linked = λ p. rw (q, row_here) tt;
         own = λ p. rw q (ap slot mix_here);
         none = λ j a b e. absurd (omega arith);
       }
@@ -197,17 +204,16 @@ module _ (i m next : ℕ) {ws ms rs heads : List ℕ} {count : ℕ} (room : Room
       (λ e. rw (e, head_here) starts_here)
       (λ e.
       rw (get_or-set_other heads (slot m) s (count + 1) 0 e)
-      (last_more x.mix_at mixes rs count words mix_kept (x.starts s l)
+      (last_more x.mix_at mixes rs count row mix_kept (x.starts s l)
       (λ q. absurd (e (sym (sym (ap slot mix_here) ∙ q))))))
 
   goes_all : Linked mixes called (count + 1)
   goes_all k l h =
-      below_or k count (λ b. goes_kept x.mix_at mixes rs count words mix_kept x.goes k b h)
+      below_or k count (λ b. goes_kept x.mix_at mixes rs count row mix_kept x.goes k b h)
       (λ b.
       let q : k ≡ count = omega arith in
-      let led = link_back rs count link (key_of m) next i (omega arith) link_low in
-      let kept = last_kept x.mix_at mixes rs count words mix_kept count (omega arith) (x.starts (slot m) low) in
-      rw (q, mix_here) (rw led kept, key_back rs count link (key_of m) next i (omega arith) link_low))
+      let kept = last_kept x.mix_at mixes rs count row mix_kept count (omega arith) (x.starts (slot m) low) in
+      rw (q, mix_here, row_here) (kept, refl))
 
   pub keyed_called : Keyed ws ms called (set heads (slot m) (count + 1)) (count + 1)
   keyed_called =
@@ -215,8 +221,8 @@ module _ (i m next : ℕ) {ws ms rs heads : List ℕ} {count : ℕ} (room : Room
         mix_at = mixes;
         mixed = λ k l.
             below_or k count
-            (λ b. rw (row_before rs count words k b, mix_kept k b) (x.mixed k b))
-            (λ b. let q : k ≡ count = omega arith in rw (q, call_back rs count link (key_of m) next i (omega arith), mix_here) ours);
+            (λ b. rw (row_kept rs count row k b, mix_kept k b) (x.mixed k b))
+            (λ b. let q : k ≡ count = omega arith in rw (q, row_here, mix_here) ours);
         starts = starts_all;
         goes = goes_all;
         wide = length-set heads (slot m) (count + 1) ∙ x.wide;

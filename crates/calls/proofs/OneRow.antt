@@ -3,11 +3,9 @@ use mathlib.Core.Path.{◌≡◌, refl, sym, ap, ◌∙◌}
 use mathlib.Core.Bool.{Bool, true, false, false≢true}
 use mathlib.Core.List.{List, [], ◌∷◌}
 use mathlib.Core.Logic.{◌≢◌}
-use mathlib.Core.Option.{none}
-use Prim.Native.Nat.{ℕ, ◌+◌, ◌-◌, ◌<◌}
-use native.Mathlib.Omega.{arith}
-use borrow.Author.Tests.{ne_eqb}
-use Rattle.limits.specs.Limits.{temporary_limit}
+use mathlib.Core.Option as maybe
+use Rattle.std.proofs.Common.{None, Some}
+use Prim.Native.Nat.{ℕ}
 use Rattle.symbol.specs.declared.Loc.{Loc}
 use Rattle.operation.specs.Operators.{is_function1, is_function2}
 use Rattle.operation.specs.declared.One.TheVariants.{Unary, Power, Function1}
@@ -60,7 +58,7 @@ node_function v i (UnaryNode o) = refl
 node_function v i (BinaryNode o r) = refl
 
 -- a function t is sought in the statement that is made for u
-seek_made : (t : Tree) → function_tree t ≡ true → (p : Loc) (u : Tree) → seek t (call_into p u ∷ []) ≡ first_of (same u t) p none
+seek_made : (t : Tree) → function_tree t ≡ true → (p : Loc) (u : Tree) → seek t (call_into p u ∷ []) ≡ first_of (same u t) p maybe.none
 unfolding seek
 seek_made t h p (constant k) = rw (function_differs (constant k) t refl h) refl
 seek_made t h p (variable q) = rw (function_differs (variable q) t refl h) refl
@@ -74,18 +72,14 @@ seek_made t h p (two (Function2 f) l r) = refl
 
 -- ---- a row that makes a call
 
-module _ {ws : List ℕ} {i m b : ℕ} {row : Row} (s : CallSought ws i (row ∷ [])) (told : row ≡ Made m b) where
+module _ {ws : List ℕ} {i m b link key : ℕ} {row : Row} (s : CallSought ws i (row ∷ [])) (told : row ≡ Made m b link key) where
   pub made_trees : TwoTrees ws b i
   unfolding All
   made_trees = record { first = (rw told at s).placed.0; second = s.tree }
 
-  pub made_number : m < temporary_limit
-  unfolding All
-  made_number = (rw told at s).named.0
-
   module _ (ms : List ℕ) {r : Bool} (h : SameSeen ws ms b i r) where
     made_sought : (temporary : ℕ → Loc) → CallFresh temporary ws i (row ∷ []) →
-        seek (seen temporary ws ms i) (statements_of temporary ws ms (row ∷ [])) ≡ first_of r (temporary m) none
+        seek (seen temporary ws ms i) (statements_of temporary ws ms (row ∷ [])) ≡ first_of r (temporary m) maybe.none
     unfolding All statements_of
     made_sought temporary f =
         let function = ap function_tree (seen_node temporary ws ms i s.tree.laid)
@@ -94,33 +88,29 @@ module _ {ws : List ℕ} {i m b : ℕ} {row : Row} (s : CallSought ws i (row ∷
         rw (told, h temporary f.nodes f.fresh ends f.tree)
         (seek_made (seen temporary ws ms i) function (temporary m) (seen temporary ws ms b))
 
-    pub same_call_hits : r ≡ true → CallFound ws ms i (row ∷ []) (m + 1)
+    pub same_call_hits : r ≡ true → CallFound ws ms i (row ∷ []) (Some m)
     unfolding All
     same_call_hits e =
-        let back : m + 1 - 1 ≡ m = omega arith in
-        record {
-          mark = λ next l. omega (arith, (rw told at l).0);
-          is = λ temporary f. rw (made_sought temporary f, e, ne_eqb (m + 1) 0 (λ z. omega arith), back) refl;
-        }
+        record { low = λ next l. (rw told at l).0; is = λ temporary f. rw (made_sought temporary f, e) refl }
 
-    pub other_call_misses : r ≡ false → CallFound ws ms i (row ∷ []) 0
-    other_call_misses e = record { mark = λ next l. omega arith; is = λ temporary f. rw (made_sought temporary f, e) refl }
+    pub other_call_misses : r ≡ false → CallFound ws ms i (row ∷ []) None
+    other_call_misses e = record { low = λ next l. tt; is = λ temporary f. rw (made_sought temporary f, e) refl }
 
   -- a call with another mix is another call
   pub other_mix_misses : (ms : List ℕ) {x y : ℕ} → SeenMix ws ms b x → SeenMix ws ms i y → x ≢ y →
-      CallFound ws ms i (row ∷ []) 0
+      CallFound ws ms i (row ∷ []) None
   other_mix_misses ms h k apart = other_call_misses ms (mixes_differ ws ms b i h k apart) refl
 
 -- ---- a row that makes none
 
-pub unmade_misses : (ws ms : List ℕ) (i : ℕ) {row z : Row} → row ≡ z → Unmade z → CallFound ws ms i (row ∷ []) 0
+pub unmade_misses : (ws ms : List ℕ) (i : ℕ) {row z : Row} → row ≡ z → Unmade z → CallFound ws ms i (row ∷ []) None
 unfolding seek statements_of
-unmade_misses ws ms i {row} {z} e h = rw e record { mark = λ next l. omega arith; is = λ temporary f. none_sought temporary z h }
+unmade_misses ws ms i {row} {z} e h = rw e record { low = λ next l. tt; is = λ temporary f. none_sought temporary z h }
   where
     none_sought : (temporary : ℕ → Loc) (z : Row) → Unmade z →
-        seek (seen temporary ws ms i) (statements_of temporary ws ms (z ∷ [])) ≡ none
+        seek (seen temporary ws ms i) (statements_of temporary ws ms (z ∷ [])) ≡ maybe.none
     none_sought temporary (Given p b) h = refl
     none_sought temporary (Copied p k) h = refl
     none_sought temporary (Kept k b) h = refl
     none_sought temporary (Passed k j) h = refl
-    none_sought temporary (Made k b) h = absurd h
+    none_sought temporary (Made k b link key) h = absurd h

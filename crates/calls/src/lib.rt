@@ -1,31 +1,33 @@
 // Calls: an earlier one that is the same is sought, and a new one gets a row and a temporary.
 #![tactic(auto)]
 
-ghost use Rattle.std.specs.Prelude.{◌≡◌, [], ◌∷◌, ◌+◌, ◌<◌, ◌≤◌};
-ghost use Rattle.limits.specs.Limits.{row_limit, temporary_limit};
-ghost use Rattle.statement.specs.Rows.{key_end, RoomFor, row_at, rows_from};
-ghost use Rattle.calls.specs.Index.{slot, key_of, Indexed, SeekReady};
-ghost use Rattle.calls.specs.Calls.{CallSought, CallFound, RowAsked, or_else, CallReady, CallMade, CallBroken};
+ghost use Rattle.std.specs.Prelude.{◌≡◌, ◌∷◌, [], ◌+◌, ◌<◌};
+ghost use Rattle.limits.specs.Limits.{temporary_limit};
+ghost use Rattle.statement.specs.Rows.{RoomFor, row_at, rows_from};
+ghost use Rattle.calls.specs.Index.{slot, key_of, SeekReady};
+ghost use Rattle.calls.specs.Progress.{progress_of, with_row, RowReady, SameTrimmer};
+ghost use Rattle.calls.specs.Calls.{CallSought, CallFound, RowAsked, CallReady, with_call, CallBroken};
 
-use limits::{KEYED_FROM, NODES, PerNode};
+use limits::{NODES, PerNode};
 use statement::{Row, State};
 
-// What trimming goes by: the nodes of the sheet, its scratch count, and whether earlier calls are sought. It goes down every tree,
-// so it is small enough for a register.
+// What trimming goes by: the number of the sheet's nodes, its scratch count, and whether earlier calls are sought.
 #[derive(Clone, Copy)]
 pub struct Settings {
-    pub nodes: u16,
-    pub scratch: u8,
+    pub nodes: u32,
+    pub scratch: u32,
     pub sharing: bool,
 }
 
-// What trimming a tree leaves: the next temporary and the rows so far; its Ershov number; the mark that its root is to have, or 0.
-#[derive(Clone, Copy)]
-pub struct Trimmed {
-    pub next: u32,
-    pub count: u32,
-    pub ershov: u32,
-    pub temp: u32,
+// Trimming as far as it has come: each node's mark, 0 or 1 + its temporary; the rows; 1 + the last row of each chain of calls, or 0.
+#[derive(Drop)]
+pub struct Trimmer<'a> {
+    pub words: &'a [u32],
+    pub settings: Settings,
+    pub marks: &'a mut PerNode,
+    pub rows: &'a mut [Row],
+    pub heads: &'a mut PerNode,
+    pub state: State,
 }
 
 // The chain of the calls with the mix m, by its lowest bits, and their key, which tells calls of one chain apart: its uppermost bits.
@@ -36,121 +38,102 @@ fn slot_of(m: u64) -> u32
 }
 
 fn key_of(m: u64) -> u32
-    ensures { (result ≡ key_of m) × (result < key_end) }
+    ensures { result ≡ key_of m }
 {
-    (m / KEYED_FROM) as u32
+    (m >> 32) as u32
 }
 
-// 1 + the row's temporary if it makes the same call as node i, else 0.
-#[tactic(auto, using(crate::proofs::OneRow::unmade_misses))]
-fn hits(ws: &[u32], ms: &PerNode, i: u32, row: Row) -> u32
-    requires { CallSought ws.now i (row ∷ []) }
-    ensures { CallFound ws.now ms.now i (row ∷ []) result }
-{
-    match row {
-        Row::Given(_, _) => 0,
-        Row::Copied(_, _) => 0,
-        Row::Kept(_, _) => 0,
-        Row::Passed(_, _) => 0,
-        Row::Made(m, b) => {
-            if compare::same_nodes(ws, ms, b, i) {
-                return m + 1;
+impl Trimmer<'_> {
+    // The temporary of row k, if it makes the same call as node i. Trees are compared only where the keys agree.
+    fn hits(&self, i: u32, key: u32, k: u32) -> Option<u32>
+        requires { RowAsked self.now.words.now self.now.marks.now self.now.rows.now i key k }
+        ensures { CallFound self.now.words.now self.now.marks.now i (row_at self.now.rows.now k ∷ []) result }
+    {
+        match self.rows[k as usize] {
+            Row::Made {
+                temporary,
+                root,
+                key: own,
+                ..
+            } => {
+                if own == key && compare::same_nodes(self.words, self.marks, root, i) {
+                    return Some(temporary);
+                }
+                None
             }
-            0
+            _ => None,
         }
     }
-}
 
-// The same of row k. Trees are compared only where the keys agree.
-fn keyed_hits(ws: &[u32], ms: &PerNode, rs: &[u32], i: u32, key: u32, k: u32) -> u32
-    requires { RowAsked ws.now ms.now rs.now i key k }
-    ensures { CallFound ws.now ms.now i (row_at rs.now k ∷ []) result }
-{
-    if statement::key_at(rs, k) != key {
-        return 0;
+    // The temporary of the first row that makes the same call as node i: by the links of its chain, from its last row.
+    #[tactic(auto, using(crate::proofs::Search::along_chain))]
+    fn seek(&self, i: u32, last: u32, key: u32) -> Option<u32>
+        requires ready { SeekReady self.now.words.now self.now.marks.now self.now.rows.now i last key self.now.state.count }
+        requires sought { CallSought self.now.words.now i (rows_from self.now.rows.now 0 self.now.state.count) }
+        requires room { RoomFor self.now.rows.now self.now.state.count }
+        ensures { CallFound self.now.words.now self.now.marks.now i
+            (rows_from self.now.rows.now 0 self.now.state.count) result }
+    {
+        let mut found = None;
+        let mut k = last;
+        while k != 0 {
+            k -= 1;
+            found = self.hits(i, key, k).or(found);
+            k = self.rows[k as usize].link();
+        }
+        found
     }
-    let row = statement::row_at(rs, k);
-    hits(ws, ms, i, row)
-}
 
-// What an earlier row says, if it says anything, else what later ones do.
-fn or_else(m: u32, later: u32) -> u32
-    ensures { result ≡ or_else m later }
-{
-    if m == 0 {
-        return later;
+    // Puts a row after those so far.
+    pub fn put(&mut self, row: Row)
+        requires { RowReady (progress_of self.old) }
+        ensures same { SameTrimmer self.old self.new }
+        ensures put { progress_of self.new ≡ with_row (progress_of self.old) row }
+    {
+        self.rows[self.state.count as usize] = row;
+        self.state.count += 1;
     }
-    m
-}
 
-// 1 + the temporary of the first of count rows that makes the same call as node i, or 0: by the links of its chain, from its last row.
-#[tactic(auto, using(crate::proofs::Search::along_chain))]
-fn seek(ws: &[u32], ms: &PerNode, rs: &[u32], i: u32, last: u32, key: u32, count: u32) -> u32
-    requires { SeekReady ws.now ms.now rs.now i last key count × CallSought ws.now i (rows_from rs.now 0 count)
-        × RoomFor rs.now count }
-    ensures { CallFound ws.now ms.now i (rows_from rs.now 0 count) result }
-{
-    let mut found = 0;
-    let mut k = last;
-    while k != 0 {
-        k -= 1;
-        let m = keyed_hits(ws, ms, rs, i, key, k);
-        found = or_else(m, found);
-        k = statement::link_at(rs, k);
+    // A row for the call of node i, with its key, linked to another of its chain, and the next temporary.
+    fn new_call(&mut self, i: u32, link: u32, key: u32) -> u32
+        requires room { RowReady (progress_of self.old) }
+        requires low { self.old.state.next < temporary_limit }
+        ensures same { SameTrimmer self.old self.new }
+        ensures answer { result ≡ self.old.state.next }
+        ensures put { progress_of self.new ≡ with_call (progress_of self.old) i link key }
+    {
+        let next = self.state.next;
+        self.put(Row::Made {
+            temporary: next,
+            root: i,
+            link,
+            key,
+        });
+        self.state.next += 1;
+        next
     }
-    found
-}
 
-// A row for the call of node i, with its key, linked to another of its chain, and the next temporary.
-fn new_call(rs: &mut [u32], i: u32, s: State, link: u32, key: u32) -> Trimmed
-    requires { RoomFor rs.old (s.count + 1) × (s.count < row_limit) × (s.next < temporary_limit) × (link ≤ s.count)
-        × (key < key_end) }
-    ensures { CallMade rs.old rs.new i s link key result }
-{
-    statement::put_call(rs, s.count, s.next, i, link, key);
-    let next = s.next + 1;
-    let count = s.count + 1;
-    Trimmed {
-        next: next,
-        count: count,
-        ershov: 1,
-        temp: next,
-    }
-}
-
-// The call of node i, whose arguments are trimmed: with sharing on an earlier call's temporary; else, or where there is none, a new one.
-#[tactic(auto, using(crate::proofs::Search::ready_comparable, crate::proofs::Search::chain_low))]
-pub fn break_call(
-    ws: &[u32],
-    i: u32,
-    g: Settings,
-    ms: &PerNode,
-    rs: &mut [u32],
-    heads: &mut PerNode,
-    s: State,
-) -> Trimmed
-    requires { CallReady ws.now ms.now rs.old g.nodes i s
-        × Indexed g.sharing ws.now ms.now rs.old heads.old s.count }
-    ensures { CallBroken g.sharing ws.now ms.now rs.old rs.new
-        heads.old heads.new g.nodes i s result }
-{
-    let mut link = 0;
-    let mut key = 0;
-    if g.sharing {
-        let m = keys::mix_seen(ws, ms, i);
+    // The temporary of the call at node i, whose arguments are trimmed: with sharing on an earlier call's; where there is none, a new one.
+    #[tactic(auto, using(crate::proofs::Search::ready_comparable, crate::proofs::Search::chain_low))]
+    pub fn break_call(&mut self, i: u32) -> u32
+        requires { CallReady self.old.settings.sharing self.old.words.now self.old.settings.nodes i (progress_of self.old) }
+        ensures same { SameTrimmer self.old self.new }
+        ensures broken { CallBroken self.old.settings.sharing self.old.words.now self.old.settings.nodes i
+            (progress_of self.old) (progress_of self.new) result }
+    {
+        if !self.settings.sharing {
+            return self.new_call(i, 0, 0);
+        }
+        let m = keys::mix_seen(self.words, self.marks, i);
         let at = slot_of(m) as usize;
-        link = heads[at];
-        key = key_of(m);
-        let found = seek(ws, ms, rs, i, link, key, s.count);
-        if found != 0 {
-            return Trimmed {
-                next: s.next,
-                count: s.count,
-                ershov: 1,
-                temp: found,
-            };
+        let link = self.heads[at];
+        let key = key_of(m);
+        match self.seek(i, link, key) {
+            Some(temporary) => temporary,
+            None => {
+                self.heads[at] = self.state.count + 1;
+                self.new_call(i, link, key)
+            }
         }
-        heads[at] = s.count + 1;
     }
-    new_call(rs, i, s, link, key)
 }

@@ -26,11 +26,11 @@ use Rattle.statement.specs.declared.Row.TheVariants.{Kept}
 use Rattle.statement.specs.Rows.{RoomFor, statements_of}
 use Rattle.statement.proofs.RowsPut.{put_length}
 use Rattle.statement.proofs.EveryRow.{all_append, roots_map}
-use Rattle.calls.specs.declared.Trimmed.{Trimmed as Answer}
+use Rattle.trim.specs.declared.Trimmed.{Trimmed as Answer}
 use Rattle.trim.specs.Rowing.{InTree}
-use Rattle.trim.specs.Trimming.{Progress, progress, state_of, TrimReady, TreeTrimmed, ViewTrimmed, NodeTrimmed}
-use Rattle.trim.specs.Joining.{stores, JoinReady, later, SideKept, SidesKept}
-use Rattle.trim.specs.Joining.{SidesJoined, stayed, kept_right, kept_both}
+use Rattle.calls.specs.Progress.{Progress}
+use Rattle.trim.specs.Trimming.{plain_of, TrimReady, TreeTrimmed, ViewTrimmed, NodeTrimmed}
+use Rattle.trim.specs.Joining.{stores, StoreReady, kept, stored, joined}
 use Rattle.trim.proofs.Gathering.{TwoSided}
 use Rattle.trim.proofs.Trimming.{result_same}
 use Rattle.trim.proofs.TwoSides.{sides, gathered_two, both_read, number_left, two_left}
@@ -99,13 +99,12 @@ module _ {h : Settings} {ws : List ℕ} {n i r : ℕ} {p p1 p2 : Progress} {o : 
           omega (arith, number_left ready e x y temporary, ershov_positive (view temporary ws p2.marks (i + 1))),
         )
 
-    right_stored : {ms' rs' : List ℕ} → is_function2 o ≡ false → SideKept r p2.state p2.marks p2.words ms' rs' →
-        TreeTrimmed h ws n (i + 1) i p (progress ms' rs' p2.index (later p2.state)) (λ temporary. seen temporary ws p.marks i)
-        (λ temporary. seen temporary ws ms' i) (join a.ershov 1) 0
+    right_stored : is_function2 o ≡ false → TreeTrimmed h ws n (i + 1) i p (kept r p2) (λ temporary. seen temporary ws p.marks i)
+        (λ temporary. seen temporary ws (kept r p2).marks i) (join a.ershov 1) 0
     unfolding ershov
-    right_stored plain kept =
+    right_stored plain =
         let blank = right_unmarked (omega (arith, modulus_wide)) in
-        let modulus = side_stored ready trimmed_below (right_at two_sides) blank kept in
+        let modulus = side_stored ready trimmed_below (right_at two_sides) blank in
         two_left ready e x y right _ plain chosen modulus.below.so
         (λ temporary. modulus.other temporary (i + 1) two_sides.left right_apart) modulus.own
         (λ temporary.
@@ -123,26 +122,23 @@ module _ {h : Settings} {ws : List ℕ} {n i r : ℕ} {p p1 p2 : Progress} {o : 
         let full = storing_tells h.scratch o a.ershov b.ershov both chosen in
         (omega (arith, ready.scratch.0), omega (arith, ready.scratch.0))
 
-    left_stored : {ms rs : List ℕ} → SideKept (i + 1) p2.state p2.marks p2.words ms rs →
-        Stored h ws n i (i + 1) p p2 (progress ms rs p2.index (later p2.state)) rows
-    left_stored kept = side_stored ready trimmed_below (left_at two_sides) (left_unmarked both_wide.0) kept
+    left_stored : Stored h ws n i (i + 1) p p2 rows
+    left_stored = side_stored ready trimmed_below (left_at two_sides) (left_unmarked both_wide.0)
 
-    pub both_room : RoomFor p2.words (p2.state.count + 2) × (next + 2 ≤ temporary_limit)
+    pub both_room : RoomFor p2.rows (p2.state.count + 2) × (next + 2 ≤ temporary_limit)
     both_room =
-        let first = (left_stored (record { put = refl; marks = refl })).below in
-        let room = room_kept ready first in
-        let same = put_length p2.words p2.state.count (Kept next (i + 1)) in
-        (omega arith, omega (arith, name_kept ready first))
+        let room = room_kept ready left_stored.below in
+        let same = put_length p2.rows p2.state.count (Kept next (i + 1)) in
+        (omega arith, omega (arith, name_kept ready left_stored.below))
 
-    both_stored : {ms' rs' : List ℕ} → is_function2 o ≡ false →
-        SidesKept (i + 1) r p2.state p2.marks p2.words ms' rs' →
-        TreeTrimmed h ws n (i + 1) i p (progress ms' rs' p2.index (later (later p2.state)))
-        (λ temporary. seen temporary ws p.marks i) (λ temporary. seen temporary ws ms' i) 2 0
+    both_stored : is_function2 o ≡ false →
+        TreeTrimmed h ws n (i + 1) i p (kept r (kept (i + 1) p2)) (λ temporary. seen temporary ws p.marks i)
+        (λ temporary. seen temporary ws (kept r (kept (i + 1) p2)).marks i) 2 0
     unfolding ershov
-    both_stored plain kept =
-        let first = left_stored kept.left in
+    both_stored plain =
+        let first = left_stored in
         let blank = first.marks r (λ q. omega (arith, two_sides.order)) ∙ right_unmarked both_wide.1 in
-        let second = side_stored ready first.below (right_at two_sides) blank kept.right in
+        let second = side_stored ready first.below (right_at two_sides) blank in
         let one_more : suc next ≡ next + 1 = omega arith in
         two_left ready e x y both 2 plain chosen second.below.so
         (λ temporary. second.other temporary (i + 1) two_sides.left right_apart ∙ first.own temporary) second.own
@@ -158,32 +154,32 @@ module _ {h : Settings} {ws : List ℕ} {n i r : ℕ} {p p1 p2 : Progress} {o : 
         (result_same (omega arith) (ap (λ (l : List Statement). l ++ stores) (both_read ready e x y temporary) ∙ sym read) refl))
         (λ temporary. refl) ready.scratch.0
 
-module _ {h : Settings} {ws ms rs hs : List ℕ} {n i r : ℕ} {p p1 : Progress} {o : Two} {a b : Answer}
-    (ready : TrimReady h ws n (i + 1) i p)
-    (e : node_at ws i ≡ BinaryNode o r) (x : ViewTrimmed h ws n (i + 1) p p1 a)
-    (y : ViewTrimmed h ws n r p1 (progress ms rs hs (state_of b)) b) where
-  pub join_ready : (how : Storing) → how ≡ storing h.scratch o a.ershov b.ershov → JoinReady how rs (i + 1) r a.ershov b
-  join_ready how chosen =
+  -- ---- as it was chosen
+
+  pub store_ready : (how : Storing) → how ≡ storing h.scratch o a.ershov b.ershov → StoreReady how (i + 1) r p2
+  store_ready how chosen =
+      let spared = spare how chosen in
       record {
-        order = (sides ready e).order;
-        within = omega (arith, (sides ready e).right_within, ready.table.few);
-        small = omega (arith, x.tree.few, ready.scratch.1);
-        long = (sound_below ready (trimmed_below ready e x y)).long;
-        room = (spare how chosen).0;
-        names = (spare how chosen).1;
+        order = two_sides.order;
+        within = omega (arith, two_sides.right_within, ready.table.few);
+        few = omega (arith, spared.0, (sound_below ready trimmed_below).long);
+        room = spared.0;
+        names = spared.1;
       }
     where
       spare : (how : Storing) → how ≡ storing h.scratch o a.ershov b.ershov →
-          RoomFor rs (b.count + stores how) × (b.next + stores how ≤ temporary_limit)
-      spare both c = both_room ready e x y (sym c)
-      spare right c =
-          (room_kept ready (trimmed_below ready e x y), omega (arith, name_kept ready (trimmed_below ready e x y)))
-      spare nothing c =
-          (omega (arith, room_kept ready (trimmed_below ready e x y)), omega (arith, name_kept ready (trimmed_below ready e x y)))
+          RoomFor p2.rows (p2.state.count + stores how) × (p2.state.next + stores how ≤ temporary_limit)
+      spare both c = both_room (sym c)
+      spare right c = (room_kept ready trimmed_below, omega (arith, name_kept ready trimmed_below))
+      spare nothing c = (omega (arith, room_kept ready trimmed_below), omega (arith, name_kept ready trimmed_below))
 
-  pub join_trimmed : {how : Storing} {ms' rs' : List ℕ} {z : Answer} → how ≡ storing h.scratch o a.ershov b.ershov →
-      is_function2 o ≡ false → SidesJoined how (i + 1) r a.ershov b ms rs ms' rs' z →
-      NodeTrimmed h ws n i p (progress ms' rs' hs (state_of z)) z
-  join_trimmed c plain (stayed s m w k) = rw (m, w, k) (nothing_stored ready e x y plain (sym c ∙ s))
-  join_trimmed c plain (kept_right s kept k) = rw k (right_stored ready e x y (sym c ∙ s) plain kept)
-  join_trimmed c plain (kept_both s kept k) = rw k (both_stored ready e x y (sym c ∙ s) plain kept)
+  join_by : (how : Storing) → how ≡ storing h.scratch o a.ershov b.ershov → is_function2 o ≡ false →
+      NodeTrimmed h ws n i p (stored how (i + 1) r p2) (plain_of (joined how a.ershov b.ershov))
+  join_by nothing c plain = nothing_stored plain (sym c)
+  join_by right c plain = right_stored (sym c) plain
+  join_by both c plain = both_stored (sym c) plain
+
+  pub join_trimmed : {how : Storing} {q : Progress} {k : ℕ} {z : Answer} → how ≡ storing h.scratch o a.ershov b.ershov →
+      is_function2 o ≡ false → q ≡ stored how (i + 1) r p2 → k ≡ joined how a.ershov b.ershov → z ≡ plain_of k →
+      NodeTrimmed h ws n i p q z
+  join_trimmed {how} c plain put number answer = rw (put, answer, number) (join_by how c plain)

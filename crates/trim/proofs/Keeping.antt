@@ -1,34 +1,35 @@
 -- Laws of a side that is stored in a temporary: what is gathered, how it is read, and what stands for it then. Assumes nothing.
-use mathlib.Core.Path.{◌≡◌, refl, sym, ap, ap₂, ◌∙◌}
+use mathlib.Core.Path.{◌≡◌, sym, ap, ap₂, ◌∙◌}
 use mathlib.Core.Logic.{◌≢◌}
 use mathlib.Core.List.{List, [], ◌∷◌, ◌++◌, append_assoc}
-use Prim.Native.Nat.{ℕ, ◌+◌, ◌-◌, ◌*◌, ◌<◌, ◌≤◌}
+use Prim.Native.Nat.{ℕ, ◌+◌, ◌<◌, ◌≤◌}
 use native.Mathlib.Omega.{arith}
 use lib.ListN.{length, get_or, set, length-set}
-use lib.Seq.{sets, get_or-set_same, get_or-set_other}
-use borrow.Author.Tests.{ne_eqb}
+use lib.Seq.{get_or-set_same, get_or-set_other}
 use Rattle.limits.specs.Limits.{depth_limit, temporary_limit}
 use Rattle.symbol.specs.declared.Loc.{Loc}
 use Rattle.calls.specs.declared.Settings.{Settings}
 use Rattle.definitions.specs.Tree.{Tree, variable}
 use Rattle.definitions.specs.Statement.{Statement, assign}
 use Rattle.node.specs.Nodes.{end_at, Laid}
-use Rattle.node.specs.Views.{seen, view, Marked, Moves, Outside}
+use Rattle.node.specs.Views.{masked, seen, view, Marked, Moves, Outside}
 use Rattle.node.proofs.Nodes.{equal_or, laid_end, nested}
 use Rattle.node.proofs.Views.{seen_frame, view_frame, view_unmarked}
 use Rattle.node.proofs.Marks.{moves_marked}
 use Rattle.statement.specs.declared.Row.{Row}
 use Rattle.statement.specs.declared.Row.TheVariants.{Kept}
-use Rattle.statement.specs.Rows.{RoomFor, row_words, statements_of}
+use Rattle.statement.specs.Rows.{RoomFor, statements_of}
 use Rattle.statement.specs.Rowing.{All, OnRoot}
 use Rattle.statement.proofs.RowsPut.{statements_append}
 use Rattle.statement.proofs.EveryRow.{all_one, all_append, roots_both, named_up}
 use Rattle.calls.proofs.Keying.{keyed_still, keyed_put}
 use Rattle.trim.specs.Rowing.{InTree, Still}
-use Rattle.trim.specs.Trimming.{Progress, progress, rows_of, Sound, TrimReady, Gathered}
-use Rattle.trim.specs.Joining.{later, SideKept}
+use Rattle.calls.specs.Progress.{Progress, rows_of}
+use Rattle.trim.specs.Trimming.{Sound, TrimReady, Gathered}
+use Rattle.trim.specs.Joining.{kept}
 use Rattle.trim.proofs.StillRows.{still_statements, still_since}
 use Rattle.trim.proofs.NodesUnmarked.{bare_marked, zeros_set}
+use Rattle.trim.proofs.Calling.{masked_marked}
 use Rattle.trim.proofs.Gathering.{TwoSided, long_put, table_put, sound_since}
 
 -- ---- where a side is
@@ -71,16 +72,16 @@ pub record Below (h : Settings) (ws : List ℕ) (n i : ℕ) (p q : Progress) (ro
   pub under : All (OnRoot (λ b. i < b)) rows
 
 -- the tree of node j was stored since q
-pub record Stored (h : Settings) (ws : List ℕ) (n i j : ℕ) (p q q' : Progress) (rows : List Row) : Type 0 where
-  pub below : Below h ws n i p q' (rows ++ (Kept q.state.next j ∷ []))
-  pub marks : (k : ℕ) → k ≢ j → get_or q'.marks k 0 ≡ get_or q.marks k 0
+pub record Stored (h : Settings) (ws : List ℕ) (n i j : ℕ) (p q : Progress) (rows : List Row) : Type 0 where
+  pub below : Below h ws n i p (kept j q) (rows ++ (Kept q.state.next j ∷ []))
+  pub marks : (k : ℕ) → k ≢ j → get_or (kept j q).marks k 0 ≡ get_or q.marks k 0
   -- the row is read as the tree
-  pub read : (temporary : ℕ → Loc) → statements_of temporary ws q'.marks (rows ++ (Kept q.state.next j ∷ []))
+  pub read : (temporary : ℕ → Loc) → statements_of temporary ws (kept j q).marks (rows ++ (Kept q.state.next j ∷ []))
       ≡ statements_of temporary ws q.marks rows ++ (assign (temporary q.state.next) (view temporary ws q.marks j) ∷ [])
   -- a temporary stands for the node, and a tree that it is not in stays
-  pub own : (temporary : ℕ → Loc) → view temporary ws q'.marks j ≡ variable (temporary q.state.next)
+  pub own : (temporary : ℕ → Loc) → view temporary ws (kept j q).marks j ≡ variable (temporary q.state.next)
   pub other : (temporary : ℕ → Loc) (k : ℕ) → Laid depth_limit ws k → Outside ws k j →
-      view temporary ws q'.marks k ≡ view temporary ws q.marks k
+      view temporary ws (kept j q).marks k ≡ view temporary ws q.marks k
 
 module _ {h : Settings} {ws : List ℕ} {n i : ℕ} {p q : Progress} {rows : List Row} (ready : TrimReady h ws n (i + 1) i p)
     (below : Below h ws n i p q rows) where
@@ -88,7 +89,7 @@ module _ {h : Settings} {ws : List ℕ} {n i : ℕ} {p q : Progress} {rows : Lis
   sound_below = sound_since below.so ready.sound
 
   -- there is room for one more row, and a number for its temporary
-  pub room_kept : RoomFor q.words (q.state.count + 1)
+  pub room_kept : RoomFor q.rows (q.state.count + 1)
   room_kept = omega (arith, below.so.counted, below.so.long, ready.counted)
 
   pub name_kept : q.state.next < temporary_limit
@@ -157,9 +158,8 @@ module _ {h : Settings} {ws : List ℕ} {n i : ℕ} {p q : Progress} {rows : Lis
     abbrev row : Row
     row = Kept next j
 
-    gathers_kept : (words : List ℕ) → words ≡ sets q.words (3 * q.state.count) (row_words row) →
-        Gathered h ws n (i + 1) i p (progress marks' words q.index (later q.state)) 0 (rows ++ (row ∷ []))
-    gathers_kept words e =
+    gathers_kept : Gathered h ws n (i + 1) i p (kept j q) 0 (rows ++ (row ∷ []))
+    gathers_kept =
         let g = below.so in
         record {
           moves = moves_kept;
@@ -173,18 +173,17 @@ module _ {h : Settings} {ws : List ℕ} {n i : ℕ} {p q : Progress} {rows : Lis
           numbered = omega (arith, g.numbered);
           onward = omega (arith, g.onward);
           wide = length-set q.marks j (next + 1) ∙ g.wide;
-          long = long_put words q row e ∙ g.long;
+          long = long_put q row ∙ g.long;
           chains = g.chains;
           small = small_kept;
           mark = omega arith;
           table =
-              table_put words q row room_kept e ∙ ap (λ (x : List Row). x ++ (row ∷ [])) g.table
+              table_put q row room_kept ∙ ap (λ (x : List Row). x ++ (row ∷ [])) g.table
               ∙ append_assoc (rows_of p) rows (row ∷ []);
           inside = all_append _ rows _ g.inside (all_one _ row (omega (arith, side.after), side.within, side.ends));
           named = all_append _ rows _ (named_up next (next + 1) (omega arith) rows g.named) (all_one _ row (omega arith));
           free = λ y u v m. all_append _ rows _ (g.free y u v m) (all_one _ row (apart y u m));
-          findable = λ on.
-              rw e (keyed_put q.words q.state.count row tt room_kept (keyed_still marks' all_still (g.findable on)));
+          findable = λ on. keyed_put q.rows q.state.count row tt room_kept (keyed_still marks' all_still (g.findable on));
         }
 
     read_kept : (temporary : ℕ → Loc) → statements_of temporary ws marks' (rows ++ (row ∷ []))
@@ -197,20 +196,19 @@ module _ {h : Settings} {ws : List ℕ} {n i : ℕ} {p q : Progress} {rows : Lis
         (still_statements temporary ws q.marks marks' rows (rows_still temporary))
         (inner ∙ sym (view_unmarked temporary ws q.marks j z))
 
-    pub side_stored : {ms' rs' : List ℕ} → SideKept j q.state q.marks q.words ms' rs' →
-        Stored h ws n i j p q (progress ms' rs' q.index (later q.state)) rows
-    side_stored {rs'} kept =
-        let down : next + 1 - 1 ≡ next = omega arith in
-        rw kept.marks
+    pub side_stored : Stored h ws n i j p q rows
+    side_stored =
         record {
           below =
               record {
-                so = gathers_kept rs' kept.put;
+                so = gathers_kept;
                 under = all_append _ rows _ below.under (all_one _ row side.after);
               };
           marks = mark_other;
           read = read_kept;
-          own = λ temporary. rw (mark_now, ne_eqb (next + 1) 0 (λ e. omega arith), down) refl;
+          own = λ temporary.
+              ap (λ (m : ℕ). masked temporary m (seen temporary ws marks' j)) mark_now
+              ∙ masked_marked temporary (seen temporary ws marks' j) next;
           other = λ temporary k laid out.
               view_frame temporary ws q.marks marks' k laid (λ m u v. mark_other m (λ e. out (omega arith) (omega arith)));
         }

@@ -28,7 +28,7 @@ module _ (temporary : ℕ → Loc) (ws ms ms' : List ℕ) where
   still_statement (Copied p k) h = refl
   still_statement (Kept m b) h = rw h refl
   still_statement (Passed m k) h = refl
-  still_statement (Made m b) h = ap (call_into (temporary m)) h
+  still_statement (Made m b link key) h = ap (call_into (temporary m)) h
 
   pub still_statements : (rs : List Row) → Still temporary ws ms ms' rs →
       statements_of temporary ws ms' rs ≡ statements_of temporary ws ms rs

@@ -1,96 +1,107 @@
 -- Trimming a node meets its contracts: one law for each way out.
-use Rattle.std.proofs.Common.{arith, refl, sym, ◌∙◌}
-use Rattle.trim.proofs.Trimming.{view_leaf, view_marks, const_leaf, var_leaf, ready_node, handed_on, plain_trimmed}
+use Rattle.std.proofs.Common.{arith, sym, ◌∙◌}
+use Rattle.trim.proofs.Trimming.{view_leaf, view_marks, leaf, ready_node}
 use Rattle.trim.proofs.Calling.{call_ready, call_trimmed}
 use Rattle.trim.proofs.OneSide.{ready_one, called_one, calling_one, unary_trimmed}
 use Rattle.trim.proofs.TwoSides.{sides, ready_left, ready_right, called_two, calling_two}
-use Rattle.trim.proofs.Joining.{join_ready, join_trimmed}
+use Rattle.trim.proofs.Joining.{store_ready, join_trimmed}
+use Rattle.trim.proofs.Handing.{same_twice, view_back, broken_back}
 use Rattle.trim.proofs.+trim_trim_node.Goals as goal
 
 -- ---- a node with its mark
 
-pub trim-returns-then-m-ne0 : goal.trim-returns-then-m-ne0
-trim-returns-then-m-ne0 t c = view_leaf c.requires c.if-m-ne0.true refl
+pub trim-returns-in-Some-clause-trimmed : goal.trim-returns-in-Some-clause-trimmed
+trim-returns-in-Some-clause-trimmed t c =
+    rw c.standing.ensures (view_leaf c.requires (omega (arith, c.in-Some.ensures)))
 
 pub trim-trim_node-a-requires : goal.trim-trim_node-a-requires
-trim-trim_node-a-requires t c = (omega arith, ready_node c.if-m-ne0.false c.requires)
+trim-trim_node-a-requires t c =
+    (omega arith, ready_node (omega (arith, c.in_default.ensures)) c.requires)
 
-pub trim-returns : goal.trim-returns
-trim-returns t c = view_marks _ c.requires c.if-m-ne0.false c.trim_node-a.ensures
+pub trim-returns-clause-trimmed : goal.trim-returns-clause-trimmed
+trim-returns-clause-trimmed t c = rw c.mark_of.ensures (view_marks _ c.requires (omega (arith, c.in_default.ensures)) c.trim_node-a.ensures.trimmed)
 
 -- ---- a leaf
 
-pub trim_node-returns-in-Const : goal.trim_node-returns-in-Const
-trim_node-returns-in-Const t c = const_leaf c.requires c.unpack-node.ensures c.plain.ensures c.in-Const.is
-
-pub trim_node-returns-in-Var : goal.trim_node-returns-in-Var
-trim_node-returns-in-Var t c = var_leaf c.requires c.unpack-node.ensures c.plain-in-Var.ensures c.in-Var.is
+pub trim_node-returns-in-Const-clause-trimmed : goal.trim_node-returns-in-Const-clause-trimmed
+trim_node-returns-in-Const-clause-trimmed t c =
+    rw c.plain.ensures (leaf c.requires c.unpack.ensures c.in-Const.is)
 
 -- ---- over one side
 
 pub trim_node-trim-a-requires : goal.trim_node-trim-a-requires
 trim_node-trim-a-requires t c =
-    let node = sym c.unpack-node.ensures ∙ c.in-Unary.is in
+    let node = sym c.unpack.ensures ∙ c.in-Unary.is in
     (omega (arith, c.requires.within), ready_one c.requires node)
 
 pub trim_node-break_call-requires : goal.trim_node-break_call-requires
 trim_node-break_call-requires t c =
-    let node = sym c.unpack-node.ensures ∙ c.in-Unary.is in
-    let function = sym c.is_function1.ensures ∙ c.if-is_function1.true in
-    let calling = calling_one c.requires node c.trim-a.ensures function in
-    call_ready c.requires calling c.state_of.ensures (called_one c.requires node function)
+    let node = sym c.unpack.ensures ∙ c.in-Unary.is in
+    let function = sym c.is_function.ensures ∙ c.if-is_function.true in
+    let calling = calling_one c.requires node c.trim-a.ensures.trimmed function in
+    let same = c.trim-a.ensures.same in
+    rw (same.words, same.settings) (call_ready c.requires calling (called_one c.requires node function))
 
-pub trim_node-returns-then-is_function1 : goal.trim_node-returns-then-is_function1
-trim_node-returns-then-is_function1 t c =
-    let node = sym c.unpack-node.ensures ∙ c.in-Unary.is in
-    let function = sym c.is_function1.ensures ∙ c.if-is_function1.true in
-    let calling = calling_one c.requires node c.trim-a.ensures function in
-    call_trimmed c.requires calling c.state_of.ensures c.break_call.ensures
+pub trim_node-returns-then-is_function-clause-trimmed : goal.trim_node-returns-then-is_function-clause-trimmed
+trim_node-returns-then-is_function-clause-trimmed t c =
+    let node = sym c.unpack.ensures ∙ c.in-Unary.is in
+    let function = sym c.is_function.ensures ∙ c.if-is_function.true in
+    let calling = calling_one c.requires node c.trim-a.ensures.trimmed function in
+    rw c.standing.ensures (call_trimmed c.requires calling (broken_back c.trim-a.ensures.same c.break_call.ensures.broken))
 
-pub trim_node-returns-else-is_function1 : goal.trim_node-returns-else-is_function1
-trim_node-returns-else-is_function1 t c =
-    let node = sym c.unpack-node.ensures ∙ c.in-Unary.is in
-    let other = sym c.is_function1.ensures ∙ c.if-is_function1.false in
-    plain_trimmed c.state_of-in-Unary.ensures c.plain-in-Unary.ensures (unary_trimmed c.requires node c.trim-a.ensures other)
+pub trim_node-returns-else-is_function-clause-trimmed : goal.trim_node-returns-else-is_function-clause-trimmed
+trim_node-returns-else-is_function-clause-trimmed t c =
+    let node = sym c.unpack.ensures ∙ c.in-Unary.is in
+    let other = sym c.is_function.ensures ∙ c.if-is_function.false in
+    rw c.plain-in-Unary.ensures (unary_trimmed c.requires node c.trim-a.ensures.trimmed other)
 
 -- ---- over two sides
 
 pub trim_node-trim-a-requires-in-Binary : goal.trim_node-trim-a-requires-in-Binary
 trim_node-trim-a-requires-in-Binary t c =
-    let node = sym c.unpack-node.ensures ∙ c.in-Binary.is in
+    let node = sym c.unpack.ensures ∙ c.in-Binary.is in
     (omega (arith, c.requires.within), ready_left c.requires node)
 
 pub trim_node-trim-b-requires : goal.trim_node-trim-b-requires
 trim_node-trim-b-requires t c =
-    let node = sym c.unpack-node.ensures ∙ c.in-Binary.is in
-    let ready = ready_right c.requires node c.trim-a-in-Binary.ensures c.state_of-in-Binary.ensures in
-    (omega (arith, c.requires.within, (sides c.requires node).order), ready)
+    let node = sym c.unpack.ensures ∙ c.in-Binary.is in
+    let same = c.trim-a-in-Binary.ensures.same in
+    let ready = ready_right c.requires node c.trim-a-in-Binary.ensures.trimmed in
+    rw (same.words, same.settings) (omega (arith, c.requires.within, (sides c.requires node).order), ready)
 
-pub trim_node-break_call-requires-then-is_function2 : goal.trim_node-break_call-requires-then-is_function2
-trim_node-break_call-requires-then-is_function2 t c =
-    let node = sym c.unpack-node.ensures ∙ c.in-Binary.is in
-    let right = handed_on c.state_of-in-Binary.ensures c.trim-b.ensures in
-    let function = sym c.is_function2.ensures ∙ c.if-is_function2.true in
-    let calling = calling_two c.requires node c.trim-a-in-Binary.ensures right function in
-    call_ready c.requires calling c.state_of-then-is_function2.ensures (called_two c.requires node function)
+pub trim_node-break_call-requires-then-is_function-2 : goal.trim_node-break_call-requires-then-is_function-2
+trim_node-break_call-requires-then-is_function-2 t c =
+    let node = sym c.unpack.ensures ∙ c.in-Binary.is in
+    let right = view_back c.trim-a-in-Binary.ensures.same c.trim-b.ensures.trimmed in
+    let function = sym c.is_function-in-Binary.ensures ∙ c.if-is_function-2.true in
+    let calling = calling_two c.requires node c.trim-a-in-Binary.ensures.trimmed right function in
+    let same = same_twice c.trim-a-in-Binary.ensures.same c.trim-b.ensures.same in
+    rw (same.words, same.settings) (call_ready c.requires calling (called_two c.requires node function))
 
-pub trim_node-returns-then-is_function2 : goal.trim_node-returns-then-is_function2
-trim_node-returns-then-is_function2 t c =
-    let node = sym c.unpack-node.ensures ∙ c.in-Binary.is in
-    let right = handed_on c.state_of-in-Binary.ensures c.trim-b.ensures in
-    let function = sym c.is_function2.ensures ∙ c.if-is_function2.true in
-    let calling = calling_two c.requires node c.trim-a-in-Binary.ensures right function in
-    call_trimmed c.requires calling c.state_of-then-is_function2.ensures c.break_call-then-is_function2.ensures
+pub trim_node-returns-then-is_function-2-clause-trimmed : goal.trim_node-returns-then-is_function-2-clause-trimmed
+trim_node-returns-then-is_function-2-clause-trimmed t c =
+    let node = sym c.unpack.ensures ∙ c.in-Binary.is in
+    let right = view_back c.trim-a-in-Binary.ensures.same c.trim-b.ensures.trimmed in
+    let function = sym c.is_function-in-Binary.ensures ∙ c.if-is_function-2.true in
+    let calling = calling_two c.requires node c.trim-a-in-Binary.ensures.trimmed right function in
+    let same = same_twice c.trim-a-in-Binary.ensures.same c.trim-b.ensures.same in
+    rw c.standing-then-is_function-2.ensures
+    (call_trimmed c.requires calling (broken_back same c.break_call-then-is_function-2.ensures.broken))
 
-pub trim_node-join_sides-requires : goal.trim_node-join_sides-requires
-trim_node-join_sides-requires t c =
-    let node = sym c.unpack-node.ensures ∙ c.in-Binary.is in
-    let right = handed_on c.state_of-in-Binary.ensures c.trim-b.ensures in
-    join_ready c.requires node c.trim-a-in-Binary.ensures right _ c.sides_to_store-how.ensures
+pub trim_node-store-requires : goal.trim_node-store-requires
+trim_node-store-requires t c =
+    let node = sym c.unpack.ensures ∙ c.in-Binary.is in
+    let right = view_back c.trim-a-in-Binary.ensures.same c.trim-b.ensures.trimmed in
+    let same = same_twice c.trim-a-in-Binary.ensures.same c.trim-b.ensures.same in
+    let chosen = rw same.settings at c.sides_to_store-how.ensures in
+    store_ready c.requires node c.trim-a-in-Binary.ensures.trimmed right _ chosen
 
-pub trim_node-returns-else-is_function2 : goal.trim_node-returns-else-is_function2
-trim_node-returns-else-is_function2 t c =
-    let node = sym c.unpack-node.ensures ∙ c.in-Binary.is in
-    let right = handed_on c.state_of-in-Binary.ensures c.trim-b.ensures in
-    let other = sym c.is_function2.ensures ∙ c.if-is_function2.false in
-    join_trimmed c.requires node c.trim-a-in-Binary.ensures right c.sides_to_store-how.ensures other c.join_sides.ensures
+pub trim_node-returns-else-is_function-2-clause-trimmed : goal.trim_node-returns-else-is_function-2-clause-trimmed
+trim_node-returns-else-is_function-2-clause-trimmed t c =
+    let node = sym c.unpack.ensures ∙ c.in-Binary.is in
+    let right = view_back c.trim-a-in-Binary.ensures.same c.trim-b.ensures.trimmed in
+    let other = sym c.is_function-in-Binary.ensures ∙ c.if-is_function-2.false in
+    let same = same_twice c.trim-a-in-Binary.ensures.same c.trim-b.ensures.same in
+    let chosen = rw same.settings at c.sides_to_store-how.ensures in
+    join_trimmed c.requires node c.trim-a-in-Binary.ensures.trimmed right chosen other c.store.ensures.stored c.join.ensures
+    c.plain-in-Binary.ensures

@@ -1,0 +1,25 @@
+-- An earlier call was found in the chain of its mix, or a row is put, at the chain's head if it is sought.
+use Rattle.std.proofs.Common.{rules}
+use Rattle.calls.proofs.Search.{ready_sought, broken_off, chain_sought, broken_found, broken_made}
+use Rattle.calls.proofs.Trimmer.break_call.Goals as goal
+
+pub returns-then-not-self-clause-broken : goal.returns-then-not-self-clause-broken
+returns-then-not-self-clause-broken c =
+    broken_off c.requires (search rules) c.new_call.ensures.answer c.new_call.ensures.put
+
+pub seek-requires-clause-ready : goal.seek-requires-clause-ready
+seek-requires-clause-ready c =
+    chain_sought c.requires (search rules) c.mix_seen-m.ensures c.slot_of-at.ensures c.key_of-key.ensures
+
+pub seek-requires-clause-sought : goal.seek-requires-clause-sought
+seek-requires-clause-sought c = ready_sought c.requires
+
+pub returns-in-Some-clause-broken : goal.returns-in-Some-clause-broken
+returns-in-Some-clause-broken c =
+    broken_found c.requires (search rules) c.mix_seen-m.ensures c.slot_of-at.ensures c.in-Some.ensures
+
+pub returns-in-None-clause-broken : goal.returns-in-None-clause-broken
+returns-in-None-clause-broken c =
+    broken_made c.requires (search rules) c.mix_seen-m.ensures c.slot_of-at.ensures c.in-None.ensures c.key_of-key.ensures
+    c.new_call-in-None.ensures.answer
+    c.new_call-in-None.ensures.put
