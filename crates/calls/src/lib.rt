@@ -8,6 +8,7 @@ ghost use Rattle.calls.specs.Index.{slot, key_of, SeekReady};
 ghost use Rattle.calls.specs.Progress.{progress_of, with_row, RowReady, SameTrimmer};
 ghost use Rattle.calls.specs.Calls.{CallSought, CallFound, RowAsked, CallReady, with_call, CallBroken};
 
+use compare::Trees;
 use limits::{NODES, PerNode};
 use statement::{Row, State};
 
@@ -20,6 +21,7 @@ pub struct Settings {
 }
 
 // Trimming as far as it has come: each node's mark, 0 or 1 + its temporary; the rows; 1 + the last row of each chain of calls, or 0.
+// Marks and heads stay numbers: 1,024 options take twice as long to clear, on each call.
 #[derive(Drop)]
 pub struct Trimmer<'a> {
     pub words: &'a [u32],
@@ -44,6 +46,17 @@ fn key_of(m: u64) -> u32
 }
 
 impl Trimmer<'_> {
+    // The trees as the marks show them so far.
+    fn trees(&self) -> Trees<'_>
+        ensures words { result.words.now ≡ self.now.words.now }
+        ensures marks { result.marks.now ≡ self.now.marks.now }
+    {
+        Trees {
+            words: self.words,
+            marks: self.marks,
+        }
+    }
+
     // The temporary of row k, if it makes the same call as node i. Trees are compared only where the keys agree.
     fn hits(&self, i: u32, key: u32, k: u32) -> Option<u32>
         requires { RowAsked self.now.words.now self.now.marks.now self.now.rows.now i key k }
@@ -56,7 +69,7 @@ impl Trimmer<'_> {
                 key: own,
                 ..
             } => {
-                if own == key && compare::same_nodes(self.words, self.marks, root, i) {
+                if own == key && self.trees().same_nodes(root, i) {
                     return Some(temporary);
                 }
                 None
@@ -124,7 +137,7 @@ impl Trimmer<'_> {
         if !self.settings.sharing {
             return self.new_call(i, 0, 0);
         }
-        let m = keys::mix_seen(self.words, self.marks, i);
+        let m = keys::mix_seen(&self.trees(), i);
         let at = slot_of(m) as usize;
         let link = self.heads[at];
         let key = key_of(m);

@@ -4,42 +4,42 @@
 ghost use Rattle.compare.specs.Comparison.{Comparable};
 ghost use Rattle.keys.specs.Keys.{MarksLow, SeenMix, ViewMix};
 
-use limits::PerNode;
+use compare::Trees;
 use node::Node;
 
 // Node i as its mark has it.
 #[cycle(mix_seen_mix_view)]
 #[tactic(auto, using(compare::proofs::MarksDecide::node_low, crate::proofs::Mixing::marked_mixed))]
-pub fn mix_view(ws: &[u32], ms: &PerNode, i: u32) -> u64
-    requires { Comparable ws.now i × MarksLow ms.now }
-    ensures { ViewMix ws.now ms.now i result }
+pub fn mix_view(trees: &Trees, i: u32) -> u64
+    requires { Comparable trees.now.words.now i × MarksLow trees.now.marks.now }
+    ensures { ViewMix trees.now.words.now trees.now.marks.now i result }
 {
-    match ms[i as usize].checked_sub(1) {
+    match trees.marks[i as usize].checked_sub(1) {
         Some(temporary) => mix::mix_temporary(temporary),
-        None => mix_seen(ws, ms, i),
+        None => mix_seen(trees, i),
     }
 }
 
 // And without its mark. Not by mix::mix_node: tried, and the proof didn't close, as its closure's clauses can't name node i.
 #[cycle(mix_seen_mix_view)]
 #[tactic(auto, using(compare::proofs::MarksDecide::node_low))]
-pub fn mix_seen(ws: &[u32], ms: &PerNode, i: u32) -> u64
-    requires { Comparable ws.now i × MarksLow ms.now }
-    ensures { SeenMix ws.now ms.now i result }
+pub fn mix_seen(trees: &Trees, i: u32) -> u64
+    requires { Comparable trees.now.words.now i × MarksLow trees.now.marks.now }
+    ensures { SeenMix trees.now.words.now trees.now.marks.now i result }
 {
-    let node = node::unpack(ws, i);
+    let node = node::unpack(trees.words, i);
     let s = mix::seed_of(node);
     match node {
         Node::Const(_) | Node::Var(_) => mix::mix_leaf(s),
         Node::Unary(_) => {
-            let a = mix_view(ws, ms, i + 1);
+            let a = mix_view(trees, i + 1);
             mix::mix_one(s, a)
         }
         Node::Binary(o, right) => {
             // Asked before the calls, so that they keep a bool and not the operator.
             let k = node::exchanges_sides(o);
-            let a = mix_view(ws, ms, i + 1);
-            let b = mix_view(ws, ms, right);
+            let a = mix_view(trees, i + 1);
+            let b = mix_view(trees, right);
             mix::mix_two(s, k, a, b)
         }
     }

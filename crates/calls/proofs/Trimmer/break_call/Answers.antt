@@ -9,17 +9,20 @@ returns-then-not-self-clause-broken c =
 
 pub seek-requires-clause-ready : goal.seek-requires-clause-ready
 seek-requires-clause-ready c =
-    chain_sought c.requires (search rules) c.mix_seen-m.ensures c.slot_of-at.ensures c.key_of-key.ensures
+    let mix = rw (c.trees.ensures.words, c.trees.ensures.marks) at c.mix_seen-m.ensures in
+    chain_sought c.requires (search rules) mix c.slot_of-at.ensures c.key_of-key.ensures
 
 pub seek-requires-clause-sought : goal.seek-requires-clause-sought
 seek-requires-clause-sought c = ready_sought c.requires
 
 pub returns-in-Some-clause-broken : goal.returns-in-Some-clause-broken
 returns-in-Some-clause-broken c =
-    broken_found c.requires (search rules) c.mix_seen-m.ensures c.slot_of-at.ensures c.in-Some.ensures
+    let mix = rw (c.trees.ensures.words, c.trees.ensures.marks) at c.mix_seen-m.ensures in
+    broken_found c.requires (search rules) mix c.slot_of-at.ensures c.in-Some.ensures
 
 pub returns-in-None-clause-broken : goal.returns-in-None-clause-broken
 returns-in-None-clause-broken c =
-    broken_made c.requires (search rules) c.mix_seen-m.ensures c.slot_of-at.ensures c.in-None.ensures c.key_of-key.ensures
+    let mix = rw (c.trees.ensures.words, c.trees.ensures.marks) at c.mix_seen-m.ensures in
+    broken_made c.requires (search rules) mix c.slot_of-at.ensures c.in-None.ensures c.key_of-key.ensures
     c.new_call-in-None.ensures.answer
     c.new_call-in-None.ensures.put

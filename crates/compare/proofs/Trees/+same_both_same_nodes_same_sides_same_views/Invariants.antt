@@ -1,7 +1,7 @@
 -- The first node's number grows from a comparison of two nodes to those of their sides.
 use Rattle.std.proofs.Common.{◌+◌, ◌-◌, ◌*◌}
 use Rattle.limits.specs.Limits.{node_limit}
-use Rattle.compare.proofs.+same_both_same_nodes_same_sides_same_views.Given as goal
+use Rattle.compare.proofs.Trees.+same_both_same_nodes_same_sides_same_views.Given as goal
 
 abbrev pub decreases-same_both : goal.decreases-same_both
 decreases-same_both l = 4 * (node_limit - l.l) + 4

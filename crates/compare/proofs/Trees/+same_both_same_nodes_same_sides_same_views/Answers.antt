@@ -6,7 +6,7 @@ use Rattle.compare.proofs.MarksDecide.{node_low}
 use Rattle.compare.proofs.HeadsDecide.{told, consts_decide, vars_decide, unary_trees, unary_side_decides, unaries_differ}
 use Rattle.compare.proofs.HeadsDecide.{binary_trees, binary_sides_decide, binaries_differ}
 use Rattle.compare.proofs.HeadsDecide.{const_differs, var_differs, unary_differs, binary_differs}
-use Rattle.compare.proofs.+same_both_same_nodes_same_sides_same_views.Goals as goal
+use Rattle.compare.proofs.Trees.+same_both_same_nodes_same_sides_same_views.Goals as goal
 
 pub same_nodes-unpack-requires : goal.same_nodes-unpack-requires
 same_nodes-unpack-requires t c = laid_room _ depth_limit _ c.requires.first.laid
