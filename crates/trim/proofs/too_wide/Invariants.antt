@@ -3,4 +3,4 @@ use Rattle.trim.proofs.Wide.{Narrow}
 use Rattle.trim.proofs.too_wide.Given as goal
 
 abbrev pub invariant-loop-row : goal.invariant-loop-row
-invariant-loop-row l = Narrow l.words l.marks l.fn.rows l.scratch l.count l.row-index
+invariant-loop-row l = Narrow l.fn.words l.fn.marks l.fn.rows l.fn.scratch l.fn.count l.row-index
