@@ -58,7 +58,8 @@ node_function v i (UnaryNode o) = refl
 node_function v i (BinaryNode o r) = refl
 
 -- a function t is sought in the statement that is made for u
-seek_made : (t : Tree) → function_tree t ≡ true → (p : Loc) (u : Tree) → seek t (call_into p u ∷ []) ≡ first_of (same u t) p maybe.none
+seek_made : (t : Tree) → function_tree t ≡ true → (p : Loc) (u : Tree) →
+    seek t (call_into p u ∷ []) ≡ first_of (same u t) p maybe.none
 unfolding seek
 seek_made t h p (constant k) = rw (function_differs (constant k) t refl h) refl
 seek_made t h p (variable q) = rw (function_differs (variable q) t refl h) refl

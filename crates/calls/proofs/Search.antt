@@ -260,7 +260,8 @@ module _ {sharing : Bool} {ws : List ℕ} {n i : ℕ} {p : Progress} (ready : Ca
     broken_found h =
         rw on (found refl (h.low p.state.next ready.named) (λ temporary f. h.is temporary (ready_fresh f)))
 
-    pub broken_made : {p' : Progress} {key k : ℕ} → CallFound ws p.marks i (rows_of p) None → key ≡ key_of m → k ≡ p.state.next →
+    pub broken_made : {p' : Progress} {key k : ℕ} → CallFound ws p.marks i (rows_of p) None → key ≡ key_of m →
+        k ≡ p.state.next →
         p' ≡ with_call (with_heads p (set p.heads at (p.state.count + 1))) i (get_or p.heads at 0) key →
         CallBroken sharing ws n i p p' k
     broken_made {p'} {key} h k answer put =

@@ -1,5 +1,6 @@
 -- What the search for an earlier call asks and answers, and what a call at a node comes to.
-use Rattle.std.specs.Prelude.{◌≡◌, ◌≢◌, ℕ, ◌+◌, ◌<◌, ◌≤◌, Bool, cond, true, List, [], ◌∷◌, length, set, Option, None, Some, IfSome}
+use Rattle.std.specs.Prelude.{◌≡◌, ◌≢◌, ℕ, ◌+◌, ◌<◌, ◌≤◌, Bool, cond, true, List, [], ◌∷◌, length, set}
+use Rattle.std.specs.Prelude.{Option, None, Some, IfSome}
 use Rattle.std.proofs.Math.Option as maybe
 use Rattle.limits.specs.Limits.{row_limit, temporary_limit}
 use Rattle.symbol.specs.declared.Loc.{Loc}

@@ -50,21 +50,24 @@ operators_differ t u apart =
 -- ---- a node of each kind, and one of another
 
 module _ (v : ℕ → Tree) (a b : ℕ) where
-  const_alone : (i : ℕ) (y : Node) → ((j : ℕ) → y ≡ Const j → ⊥) → same (node_tree v a (Const i)) (node_tree v b y) ≡ false
+  const_alone : (i : ℕ) (y : Node) → ((j : ℕ) → y ≡ Const j → ⊥) →
+      same (node_tree v a (Const i)) (node_tree v b y) ≡ false
   unfolding same
   const_alone i (Const j) apart = absurd (apart j refl)
   const_alone i (Var q) apart = refl
   const_alone i (Unary u) apart = refl
   const_alone i (Binary u s) apart = refl
 
-  var_alone : (p : Loc) (y : Node) → ((q : Loc) → y ≡ Var q → ⊥) → same (node_tree v a (Var p)) (node_tree v b y) ≡ false
+  var_alone : (p : Loc) (y : Node) → ((q : Loc) → y ≡ Var q → ⊥) →
+      same (node_tree v a (Var p)) (node_tree v b y) ≡ false
   unfolding same
   var_alone p (Const j) apart = refl
   var_alone p (Var q) apart = absurd (apart q refl)
   var_alone p (Unary u) apart = refl
   var_alone p (Binary u s) apart = refl
 
-  unary_alone : (o : One) (y : Node) → ((u : One) → y ≡ Unary u → ⊥) → same (node_tree v a (Unary o)) (node_tree v b y) ≡ false
+  unary_alone : (o : One) (y : Node) → ((u : One) → y ≡ Unary u → ⊥) →
+      same (node_tree v a (Unary o)) (node_tree v b y) ≡ false
   unfolding same
   unary_alone o (Const j) apart = refl
   unary_alone o (Var q) apart = refl
@@ -87,8 +90,8 @@ pub record Unpacked (ws : List ℕ) (a b : ℕ) (x y : Node) : Type 0 where
   pub second : y ≡ node_at ws b
 
 -- x was told to be the node z, and y to be w
-pub told : {ws : List ℕ} {a b : ℕ} {x y z w : Node} → TwoTrees ws a b → x ≡ node_at ws a → y ≡ node_at ws b → x ≡ z → y ≡ w →
-    Unpacked ws a b z w
+pub told : {ws : List ℕ} {a b : ℕ} {x y z w : Node} → TwoTrees ws a b → x ≡ node_at ws a → y ≡ node_at ws b →
+    x ≡ z → y ≡ w → Unpacked ws a b z w
 told trees first second e k = record { trees = trees; first = sym e ∙ first; second = sym k ∙ second }
 
 module _ {ws : List ℕ} {a b : ℕ} where
@@ -110,13 +113,15 @@ module _ {ws : List ℕ} {a b : ℕ} where
   unfolding same
   consts_decide u ms temporary n f ends-a ends-b = sym (seen_nodes u temporary ms)
 
-  pub vars_decide : {p q : Loc} {r : Bool} → Unpacked ws a b (Var p) (Var q) → (p ≡ q → r ≡ true) → ((p ≡ q → ⊥) → r ≡ false) →
-      (ms : List ℕ) → SameSeen ws ms a b r
+  pub vars_decide : {p q : Loc} {r : Bool} → Unpacked ws a b (Var p) (Var q) → (p ≡ q → r ≡ true) →
+      ((p ≡ q → ⊥) → r ≡ false) → (ms : List ℕ) → SameSeen ws ms a b r
   unfolding same
   vars_decide {p} {q} {r} u alike apart ms temporary n f ends-a ends-b =
       by_test (same_place p q)
       (λ e. alike (same_place_equal p q e) ∙ sym (seen_nodes u temporary ms ∙ e))
-      (λ e. apart (λ k. absurd (false≢true (sym e ∙ ap (same_place p) (sym k) ∙ same_place_self p))) ∙ sym (seen_nodes u temporary ms ∙ e))
+      (λ e.
+      apart (λ k. absurd (false≢true (sym e ∙ ap (same_place p) (sym k) ∙ same_place_self p)))
+      ∙ sym (seen_nodes u temporary ms ∙ e))
 
   module _ {o p : One} (u : Unpacked ws a b (Unary o) (Unary p)) where
     side_first : Side ws side_limit a (a + 1)
@@ -133,7 +138,9 @@ module _ {ws : List ℕ} {a b : ℕ} where
     unary_side_decides ms e k temporary n f ends-a ends-b =
         let v = view temporary ws ms in
         k temporary n f (omega (arith, side_first.ends)) (omega (arith, side_second.ends))
-        ∙ sym (seen_nodes u temporary ms ∙ ap (λ (x : One). same (one o (v (a + 1))) (one x (v (b + 1)))) (sym e) ∙ one_same o (v (a + 1)) (v (b + 1)))
+        ∙ sym (seen_nodes u temporary ms
+        ∙ ap (λ (x : One). same (one o (v (a + 1))) (one x (v (b + 1)))) (sym e)
+        ∙ one_same o (v (a + 1)) (v (b + 1)))
 
     pub unaries_differ : (ms : List ℕ) → (o ≡ p → ⊥) → SameSeen ws ms a b false
     unaries_differ ms apart temporary n f ends-a ends-b =

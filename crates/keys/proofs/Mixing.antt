@@ -83,8 +83,8 @@ module _ {ws : List ℕ} {i : ℕ} {r : Node} (h : Comparable ws i) (u : r ≡ n
         (λ temporary n f l.
         q ∙ sym (place_mixed temporary p (λ k. f.unread i k p (tree_starts h l) (sym u ∙ e)) temporary_limit))
 
-    pub leaf_mixed : {s x : ℕ} → s ≡ node_seed r → ((k : ℕ) × (r ≡ Const k)) ⊎ ((p : Loc) × (r ≡ Var p)) → x ≡ stirred s →
-        SeenMix ws ms i x
+    pub leaf_mixed : {s x : ℕ} → s ≡ node_seed r → ((k : ℕ) × (r ≡ Const k)) ⊎ ((p : Loc) × (r ≡ Var p)) →
+        x ≡ stirred s → SeenMix ws ms i x
     leaf_mixed seed (inl e) q = const_mixed e.1 (seed_mixes_constant seed e.1 q)
     leaf_mixed seed (inr e) q = var_mixed e.1 (seed_mixes_variable seed e.1 q)
 

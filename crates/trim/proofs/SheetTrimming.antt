@@ -42,7 +42,8 @@ pub record Ahead (ws ms₀ : List ℕ) (n : ℕ) (p : Progress) (i : ℕ) : Type
   pub safe : All (OnRoot (Untouched ws p.marks i)) (rows_of p)
 
 -- k of the rows er are trimmed
-pub record TrimmedSoFar (h : Settings) (ws ms₀ : List ℕ) (er : List Row) (n : ℕ) (s₀ : State) (p : Progress) (k : ℕ) : Type 0 where
+pub record TrimmedSoFar (h : Settings) (ws ms₀ : List ℕ) (er : List Row) (n : ℕ) (s₀ : State) (p : Progress) (k : ℕ) :
+    Type 0 where
   pub sound : Sound h ws n p
   pub room : RoomFor p.rows (p.state.count + zeros p.marks n + spent (rows_from er k (s₀.count - k)))
   pub onward : s₀.next ≤ p.state.next

@@ -19,7 +19,9 @@ trim-trim_node-a-requires t c =
     (omega arith, ready_node (omega (arith, c.in_default.ensures)) c.requires)
 
 pub trim-returns-clause-trimmed : goal.trim-returns-clause-trimmed
-trim-returns-clause-trimmed t c = rw c.mark_of.ensures (view_marks _ c.requires (omega (arith, c.in_default.ensures)) c.trim_node-a.ensures.trimmed)
+trim-returns-clause-trimmed t c =
+    rw c.mark_of.ensures
+    (view_marks _ c.requires (omega (arith, c.in_default.ensures)) c.trim_node-a.ensures.trimmed)
 
 -- ---- a leaf
 
