@@ -3,16 +3,15 @@ use Prim.Native.Nat.{ℕ, zero, suc, ◌+◌, ◌-◌, ◌<◌}
 use native.Mathlib.Omega.{arith}
 use mathlib.Core.Bool.{Bool, true, false, cond, ◌&&◌}
 use mathlib.Core.List.{List, [], ◌∷◌}
-use mathlib.Core.Path.{◌≡◌, refl, sym, subst}
+use mathlib.Core.Path.{◌≡◌, refl, sym}
 use lib.ListN.{length}
 use lib.Dec.{ltb, leb}
-use borrow.Author.Tests.{lt-ltb, ltb-true}
+use borrow.Author.Tests.{lt-ltb}
 use Rattle.limits.specs.Limits.{node_limit, last_tag}
 use Rattle.operation.specs.declared.One.{One}
 use Rattle.operation.specs.declared.Two.{Two}
 use Rattle.definitions.specs.Tree.{Tree, constant, variable, weight}
 use Rattle.definitions.specs.Sheet.{Read, got, bad, byte, TreeReader, tree_at}
-use Rattle.definitions.proofs.Comparing.{and_both}
 use Rattle.node.specs.declared.Node.{Node}
 use Rattle.node.specs.declared.Node.TheVariants.{Const, Var, Unary, Binary}
 use Rattle.node.specs.Nodes.{one_tag, one_word, two_tag, two_word, layout}
@@ -20,7 +19,7 @@ use Rattle.places.specs.declared.Head.{Head}
 use Rattle.places.specs.declared.Head.TheVariants.{Leaf, Over1, Over2}
 use Rattle.places.specs.Heads.{head_of, head_at, head_tree}
 use Rattle.places.proofs.Heads.{head_inside, by_test, tag_head_lem}
-use Rattle.trees.specs.Reads.{within_limits, head_within}
+use Rattle.trees.specs.Reads.{head_within}
 
 -- what is known of a node that was read, by its head: with no side, over one tree, over two
 pub record Head0 (q : Read Node) (tag word end : ℕ) : Type 0 where
@@ -65,18 +64,6 @@ head_says q e = rw (sym e) at (says q)
 pub head_refused : (q : Read Node) {k : ℕ} → bad k ≡ head_of q → q ≡ bad k
 head_refused q e = rw (sym e) at (says q)
 
--- what was read, and not refused
-abbrev IsGot : Read Head → Type 0
-IsGot (got h end) = Unit {0}
-IsGot (bad k) = ⊥
-
--- the second of three tests has passed
-got_passes : (a b c : Bool) (q : Read Node) → IsGot (head_of (cond a (cond b q (cond c (bad 6) (bad 5))) (bad 5))) → b ≡ true
-got_passes true true c q k = refl
-got_passes true false true q k = absurd k
-got_passes true false false q k = absurd k
-got_passes false b c q k = absurd k
-
 module _ (stable : Bool) (first : ℕ) (s : List ℕ) (at n left : ℕ) where
   abbrev below : ℕ → TreeReader
   below d a m = tree_at stable first d s a m
@@ -107,10 +94,3 @@ module _ (stable : Bool) (first : ℕ) (s : List ℕ) (at n left : ℕ) where
   -- within the limits a node is what stands at its tag
   pub node_within : 0 < left → n < node_limit → head_within stable first left s at n ≡ head_at stable first s at
   node_within h k = rw (lt-ltb 0 left h, lt-ltb n node_limit k) (head_inside stable first s at)
-
-  pub got_within : {h : Head} {end : ℕ} → got h end ≡ head_of (head_within stable first left s at n)
-      → (0 < left) × (n < node_limit)
-  got_within e =
-      let passed = got_passes (ltb at (length s)) (within_limits left n) known (head_at stable first s at) (subst IsGot e tt) in
-      let both = and_both _ _ passed in
-      (ltb-true _ _ both.0, ltb-true _ _ both.1)
