@@ -58,7 +58,8 @@ reduced_few : (r size d s : ℕ) → 0 < size → size ≤ 2 ^ 31 → length (po
 reduced_few r = positive_few (product_ops (Some r)) 5 (λ d s1 s2. refl)
 
 -- a power has those of its size, and a negative one its reciprocal
-sized_few : (m : Option ℕ) (stable : Bool) (p : ℤ) (d s : ℕ) → nat_abs p ≤ 2 ^ 31 → length (power_ops m stable p d s) ≤ ops_per_node
+sized_few : (m : Option ℕ) (stable : Bool) (p : ℤ) (d s : ℕ) → nat_abs p ≤ 2 ^ 31
+    → length (power_ops m stable p d s) ≤ ops_per_node
 unfolding power_ops
 sized_few m stable (pos zero) d s h = omega arith
 sized_few None stable (pos (suc n)) d s h = omega (arith, plain_few (suc n) d s (omega arith) h)

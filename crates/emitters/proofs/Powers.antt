@@ -1,5 +1,5 @@
 -- The operations of a power as they are emitted: by its sign, digit by digit, squaring by squaring. Assumes nothing.
-use Rattle.std.specs.Prelude.{None, Some, Option}
+use Rattle.std.specs.Prelude.{None, Option}
 use Prim.Native.Nat.{ℕ, zero, suc, ◌+◌, ◌-◌, ◌/◌, ◌%◌, ◌<◌, ◌≤◌}
 use mathlib.Core.Path.{◌≡◌, refl, sym, ap, ◌∙◌}
 use mathlib.Core.Bool.{Bool, true, false}
@@ -20,13 +20,8 @@ use Rattle.definitions.specs.Power.{digits, closing, higher, digit_ops, gather_o
 use Rattle.definitions.proofs.PowerDigits.{digits_zero, digits_step}
 use Rattle.emitters.specs.Emitted.{Emitted, AllEmitted}
 use Rattle.emitters.specs.declared.Output.{Output}
-use Rattle.emitters.proofs.Emitting.{all_then}
-use Rattle.emitters.proofs.Sign.{handed, above, below}
-
--- a product has an operation at least
-pub product_some : (m : Option ℕ) (d s1 s2 : ℕ) → 0 < length (product_ops m d s1 s2)
-product_some None d s1 s2 = omega arith
-product_some (Some r) d s1 s2 = omega arith
+use Rattle.emitters.proofs.Emitting.{all_emitted, all_then}
+use Rattle.emitters.proofs.Sign.{handed, zero_word, above, below}
 
 module _ (times : (d s1 s2 : ℕ) → List Op) where
   -- the operations of a number's digits: those of its lowest, and those of its half's
@@ -50,7 +45,8 @@ module _ (times : (d s1 s2 : ℕ) → List Op) where
 
   -- those of a positive power: the move, the digits, the closing squarings
   pub positive_length : (size d s : ℕ)
-      → length (positive_ops times size d s) ≡ 1 + length (gather_ops times d s (higher size)) + length (square_ops times d (closing size))
+      → length (positive_ops times size d s)
+      ≡ 1 + length (gather_ops times d s (higher size)) + length (square_ops times d (closing size))
   unfolding positive_ops
   positive_length size d s = omega (arith, length-append (gather_ops times d s (higher size)) (square_ops times d (closing size)))
 
@@ -101,7 +97,8 @@ not_reduced m stable p d s fits e =
     ap (λ (p : ℤ). power_ops m stable p d s) (sym (to_z-of_z w32 p fits)) ∙ plain m stable (handed p) d s e
 
 -- of a power of a known size, tested for its sign: its size is above 0, and its operations are those of a positive power
-module _ (m : Option ℕ) (stable : Bool) (p : ℤ) {size : ℕ} (d s : ℕ) (fits : SFits w32 p) (known : size ≡ nat_abs (handed p)) where
+module _ (m : Option ℕ) (stable : Bool) (p : ℤ) {size : ℕ} (d s : ℕ) (fits : SFits w32 p)
+    (known : size ≡ nat_abs (handed p)) where
   pub above_ops : lt_z (pos 0) (handed p) ≡ true
       → (0 < size) × (power_ops m stable p d s ≡ positive_ops (product_ops m) size d s)
   above_ops e = let sign = above p fits known e in (sign.0, power_above m d s stable size sign)
@@ -114,3 +111,6 @@ module _ (m : Option ℕ) (stable : Bool) (p : ℤ) {size : ℕ} (d s : ℕ) (fi
   pub last_ops : (of_z w32 p ≡ 0 → ⊥) → lt_z (pos 0) (handed p) ≡ false → stable ≡ false
       → (0 < size) × (power_ops m stable p d s ≡ positive_ops (product_ops None) size d s ++ (op_uni recip_code d d ∷ []))
   last_ops n e b = let sign = below p fits known n e in (sign.0, reciprocal_last m d s size b sign)
+
+-- what a power is emitted as, by its sign
+pub ruleset by_sign = (zero_word, power_zero, above_ops, first_ops, all_emitted)

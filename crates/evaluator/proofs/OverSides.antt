@@ -29,7 +29,8 @@ use Rattle.evaluator.specs.declared.Plan.{Plan}
 use Rattle.evaluator.specs.declared.Plan.TheVariants.{InRegisters, Right, Left}
 use Rattle.evaluator.specs.declared.Allocation.{Allocation}
 use Rattle.evaluator.specs.Plans.{right_as, left_as, plan_as, fused_ops}
-use Rattle.evaluator.specs.Evaluation.{turns_by, view_tree, span_of, leaf_at, NodeReady, SidesReady, ViewEmitted, TwoEmitted, SidesAllocated}
+use Rattle.evaluator.specs.Evaluation.{turns_by, view_tree, span_of, leaf_at, NodeReady, SidesReady}
+use Rattle.evaluator.specs.Evaluation.{ViewEmitted, TwoEmitted, SidesAllocated}
 
 -- ---- the plan's operations
 

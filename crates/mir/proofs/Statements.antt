@@ -46,7 +46,8 @@ assign_emitted e p i {x} number saved =
 
 -- that of a temporary
 pub copy_emitted : (h : Header) (p : Loc) {q q' : Loc} {out out₁ out₂ out₃ : Output} → q ≡ q' →
-    Emitted (op_need 1 ∷ []) 1 out out₁ → Emitted (op_load 0 q ∷ []) 1 out₁ out₂ → Emitted (op_save 0 p ∷ []) 1 out₂ out₃ →
+    Emitted (op_need 1 ∷ []) 1 out out₁ → Emitted (op_load 0 q ∷ []) 1 out₁ out₂ →
+    Emitted (op_save 0 p ∷ []) 1 out₂ out₃ →
     Emitted (statement_ops h.fused (assign p (variable q'))) most_ops out out₃
 unfolding statement_ops evaluate ershov
 copy_emitted h p place need load save =

@@ -8,7 +8,7 @@ use native.Mathlib.Nat.{add-zero, zero-add, suc-add, add-suc}
 use lib.ListN.{length, get_or, set, take, drop, replicate}
 use borrow.Rule.Slice.PartMut.{put_mid}
 use lib.ListN.{length-set, length-drop, length-replicate, drop_of_length-le, take-append-drop, get_or-append}
-use lib.Seq.{drop-drop, sets, sets-eq, take_all, set_out, set_comm, length-take-le, get_or-append-add, get_or-set_other}
+use lib.Seq.{drop-drop, sets, sets-eq, take_all, set_out, set_comm, length-take-le, get_or-append-add}
 
 module _ {A : Type 0} where
   -- a store that lies apart from a run may come first
@@ -56,7 +56,7 @@ module _ {A : Type 0} where
       → new ≡ take k vs → put_mid a k l new ≡ sets l a vs
   cut_stored l vs a k h n e = part_stored l (take k vs) a k (omega arith) n e ∙ sets_cut k vs l a h
 
-  -- what stands in a run, and before it
+  -- what stands in a run
   pub get_d_sets : (vs l : List A) (i k : ℕ) (d : A) → i + length vs ≤ length l → k < length vs
       → get_or (sets l i vs) (i + k) d ≡ get_or vs k d
   get_d_sets vs l i k d h m =
@@ -65,11 +65,6 @@ module _ {A : Type 0} where
       ap (λ (s : List A). get_or s (i + k) d) (sets-eq vs l i h ∙ append_assoc (take i l) vs rest)
       ∙ ap (λ (j : ℕ). get_or (take i l ++ (vs ++ rest)) (j + k) d) (sym e)
       ∙ get_or-append-add (take i l) (vs ++ rest) k d ∙ get_or-append vs rest d k m
-
-  pub get_d_sets_below : (vs l : List A) (i j : ℕ) (d : A) → j < i → get_or (sets l i vs) j d ≡ get_or l j d
-  get_d_sets_below [] l i j d h = refl
-  get_d_sets_below (v ∷ vs) l i j d h =
-      get_d_sets_below vs (set l i v) (suc i) j d (omega arith) ∙ get_or-set_other l i j v d (λ e. omega arith)
 
   -- stores in the second of two lists
   set_right : (p q : List A) (i : ℕ) (v : A) → set (p ++ q) (length p + i) v ≡ p ++ set q i v

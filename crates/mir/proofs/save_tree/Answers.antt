@@ -8,4 +8,5 @@ pub returns : goal.returns
 returns c =
     let h = c.args.trees.now.header in
     let known = c.requires.0 in
-    saved_emitted h.fused _ (known.bare.number (temporary_of h)) (omega (arith, known.near.within)) c.need.ensures c.compile_node.ensures c.save.ensures
+    let number = known.bare.number (temporary_of h) in
+    saved_emitted h.fused _ number (omega (arith, known.near.within)) c.need.ensures c.compile_node.ensures c.save.ensures

@@ -79,7 +79,9 @@ pub alloc-compile-requires : goal.alloc-compile-requires
 alloc-compile-requires t c = (search rules, first_ready c.ershov-x.result c.ershov-y.result c.requires c.take_turns-turns.ensures)
 
 pub alloc-compile-requires-2 : goal.alloc-compile-requires-2
-alloc-compile-requires-2 t c = (search rules, second_ready c.ershov-x.result c.ershov-y.result c.requires c.take_turns-turns.ensures refl c.compile.ensures)
+alloc-compile-requires-2 t c =
+    let turns = c.take_turns-turns.ensures in
+    (search rules, second_ready c.ershov-x.result c.ershov-y.result c.requires turns refl c.compile.ensures)
 
 pub alloc-returns : goal.alloc-returns
 alloc-returns t c =
