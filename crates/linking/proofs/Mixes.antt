@@ -3,13 +3,11 @@ use mathlib.Core.Path.{◌≡◌, refl, sym, ap, ap₂, ◌∙◌}
 use mathlib.Core.List.{List}
 use Prim.Native.Nat.{ℕ, ◌+◌, ◌<◌, min}
 use native.Mathlib.Omega.{arith}
-use lib.ListN.{length, get_or, set, length-set}
-use lib.Seq.{get_or-set_same, get_or-set_other}
+use lib.ListN.{length, get_or}
 use Rattle.definitions.specs.Tree.{Tree}
 use Rattle.node.specs.declared.Node.{Node}
 use Rattle.node.specs.declared.Node.TheVariants.{Const, Var, Unary, Binary}
 use Rattle.node.specs.Nodes.{node_at, end_at}
-use Rattle.node.proofs.Nodes.{equal_or}
 use Rattle.mix.specs.Mix.{one_mix, two_mix, mix_by, mix, node_mix}
 use Rattle.node.specs.Sides.{Sides}
 use Rattle.node.proofs.Sides.{sides_more}
@@ -55,24 +53,3 @@ pub mixes_asked : {rows mx : List ℕ} {lo l r : ℕ} → From rows lo l → Fro
     → Pair rows l r × Mixed rows mx (min l r)
 mixes_asked {lo = lo} {l} {r} left right mixed =
     (record { first = left.row; second = right.row }, mixed_up lo (min l r) (omega (arith, left.from, right.from)) mixed)
-
--- a row before them changed no tree
-pub mixed_others : {rows rows' mx : List ℕ} {i : ℕ} → length rows' ≡ length rows
-    → ((j : ℕ) → i < j → Inside rows j → linked rows' j ≡ linked rows j)
-    → Mixed rows mx (i + 1) → Mixed rows' mx (i + 1)
-mixed_others {rows} {i = i} whole others mixed =
-    record {
-      wide = omega (arith, whole, mixed.wide);
-      mixes = λ j l h. let was_inside : Inside rows j = omega (arith, whole) in
-          mixed.mixes j l was_inside ∙ ap mix (sym (others j (omega arith) was_inside));
-    }
-
--- its own mix is stored
-pub mixed_more : {rows mx : List ℕ} {i r : ℕ} → Mixed rows mx (i + 1) → i < length mx → r ≡ mix (linked rows i)
-    → Mixed rows (set mx i r) i
-mixed_more {rows} {mx} {i} {r} mixed inside e =
-    record {
-      wide = omega (arith, length-set mx i r, mixed.wide);
-      mixes = λ j l h. equal_or j i (λ q. rw q (get_or-set_same mx i r 0 inside ∙ e))
-          (λ q. get_or-set_other mx i j r 0 q ∙ mixed.mixes j (omega (arith, q)) h);
-    }

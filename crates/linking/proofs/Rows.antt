@@ -118,13 +118,6 @@ module _ {rows : List ℕ} {i : ℕ} (free : Free rows i) where
     settled_added stored =
         rw (← settled.tree, told) (made_added z (omega (arith, left.from, right.from)) within stored)
 
-  -- one row that it was made over is not before the next
-  pub side_from : {values : List ℕ} {code : BinaryCode} {l r j : ℕ} {m z : Made} → From rows (i + 1) l → From rows (i + 1) r
-      → Settled values rows code l r m → m ≡ z → (Within rows (min l r) z → From rows (min l r) j) → From rows (i + 1) j
-  side_from left right settled told take =
-      let h = take (rw told at settled.within) in
-      record { from = omega (arith, left.from, right.from, h.from); row = h.row }
-
 -- ---- a node of the table
 
 -- no rule fits a node over the trees of its sides

@@ -13,7 +13,6 @@ use Rattle.node.specs.declared.Node.{Node}
 use Rattle.node.specs.declared.Node.TheVariants.{Const, Var, Unary as UnaryNode, Binary as BinaryNode}
 use Rattle.node.specs.Sides.{Sides}
 use Rattle.node.specs.Nodes.{node_tag, node_word, node_at, end_at, layout}
-use Rattle.node.proofs.Laying.{weight_positive}
 use Rattle.tidying.proofs.Laying.{one_laid, two_laid}
 use Rattle.links.specs.Links.{link_tree, linked, Inside, Row, Fits, Lays}
 use Rattle.links.proofs.Links.{row_side, row_tree, row_rises, row_packed}
@@ -40,9 +39,6 @@ row_read row unpacked told =
     record { tree = row_tree row; sides = row_rises row; tag_is = (row_packed row).0; word_is = (row_packed row).1 }
 
 module _ {rows : List ℕ} {i m : ℕ} (fits : Fits rows i m) where
-  pub node_fits : m < node_limit
-  node_fits = omega (arith, fits.few, weight_positive (linked rows i))
-
   -- a side of the row, and what is left of the rows after it
   side_fits : (j n : ℕ) → (i < j) × Inside rows j → n + weight (linked rows j) ≤ node_limit
       → (length rows - j < length rows - i) × Fits rows j n

@@ -3,9 +3,9 @@ use mathlib.Core.Path.{◌≡◌, sym, ap, ◌∙◌}
 use mathlib.Core.Bool.{Bool, true, false}
 use mathlib.Core.List.{List}
 use Rattle.std.proofs.Common.{Option, Some, None}
-use Prim.Native.Nat.{ℕ, ◌+◌, ◌-◌, ◌<◌, ◌≤◌, min}
+use Prim.Native.Nat.{ℕ, ◌+◌, ◌≤◌, min}
 use native.Mathlib.Omega.{arith}
-use lib.ListN.{length, get_or}
+use lib.ListN.{get_or}
 use lib.Dec.{eqb}
 use Rattle.operation.specs.declared.UnaryCode.{UnaryCode}
 use Rattle.operation.specs.declared.UnaryCode.TheVariants.{Conjugate}
@@ -90,10 +90,6 @@ module _ {rows : List ℕ} {a b : ℕ} (pair : Pair rows a b) where
         false ≡ conjugates (linked rows a) (linked rows b)
     conjugate_apart mixed other = conjugate_told (other_mixes_differ (conjugate_comparable mixed) other)
 
-  pub conjugate_none : is_unary Conjugate (linked rows a) ≡ false →
-      false ≡ conjugates (linked rows a) (linked rows b)
-  conjugate_none h = rw h
-
 -- ---- the rules until none fits
 
 from_less : {rows : List ℕ} (lo : ℕ) {hi j : ℕ} → lo ≤ hi → From rows hi j → From rows lo j
@@ -124,17 +120,6 @@ module _ (values : List ℕ) (c : BinaryCode) {rows : List ℕ} {l r : ℕ} (pai
   settled_ends {z} e = record { tree = told (Some (Ends z)) e; within = onward (Some (Ends z)) e }
 
   module _ {d : BinaryCode} {x y : ℕ} (e : m ≡ Some (Again d x y)) where
-    -- the sides' numbers grow, and are not past the rows
-    pub again_less : length rows + length rows - (x + y) < length rows + length rows - (l + r)
-    again_less = let o = onward (Some (Again d x y)) e in omega (arith, o.0, o.1.row.inside, o.2.row.inside)
-
-    pub again_rows : {mx : List ℕ} → Mixed rows mx (min l r) → Pair rows x y × Mixed rows mx (min x y)
-    again_rows mixed =
-        let o = onward (Some (Again d x y)) e in (
-          record { first = o.1.row; second = o.2.row },
-          mixed_up (min l r) (min x y) (omega (arith, o.1.from, o.2.from)) mixed,
-        )
-
     pub settled_again : {z : Made} → Settled values rows d x y z → Settled values rows c l r z
     settled_again {z} settled =
         let o = onward (Some (Again d x y)) e in

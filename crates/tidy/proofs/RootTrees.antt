@@ -1,5 +1,5 @@
 -- The trees of a sheet's roots: how they grow by a statement, and how much they weigh. Assumes nothing.
-use mathlib.Core.Path.{◌≡◌, refl, sym, ap, ap₂, ◌∙◌}
+use mathlib.Core.Path.{◌≡◌, refl, ap, ap₂, ◌∙◌}
 use mathlib.Core.List.{List, [], ◌∷◌, ◌++◌}
 use Prim.Native.Nat.{ℕ, zero, suc, ◌+◌, ◌-◌, ◌*◌, ◌<◌, ◌≤◌}
 use native.Mathlib.Omega.{arith}
@@ -17,8 +17,8 @@ use Rattle.statement.specs.declared.Row.{Row}
 use Rattle.statement.specs.Rows.{root_at}
 use Rattle.statement.specs.Handover.{SheetHeld}
 use Rattle.links.specs.Links.{Inside, linked}
-use Rattle.linking.specs.Rows.{Tidied, Kept}
-use Rattle.tidy.specs.Relaying.{root_trees, tidy_trees, Linked, Relaid, Neat}
+use Rattle.linking.specs.Rows.{Tidied}
+use Rattle.tidy.specs.Relaying.{root_trees, tidy_trees, Linked, Relaid}
 
 -- ---- a statement more
 
@@ -142,16 +142,3 @@ module _ {ws : List ℕ} {rows : List Row} {n count : ℕ} (held : SheetHeld ws 
     pub sheet_relaid : {ws' : List ℕ} {rows' : List Row} {m : ℕ} → Relaid (root_trees (linked links) rows 0 count) ws rows ws' rows' count m
         → Relaid (tidy_trees values ws rows count) ws rows ws' rows' count m
     sheet_relaid laid = rw linked_trees at laid
-
-    -- where the rows are the nodes as read, there is nothing to lay
-    pub sheet_neat : Kept ws links 0 → Neat values ws rows ws rows count n n
-    sheet_neat kept =
-        record {
-          nodes = refl;
-          words = refl;
-          same = refl;
-          trees = λ j h.
-              let root = root_at rows j in
-              let inside = root_inside j h in
-              sym (tidied.trees root (omega arith) inside) ∙ kept.trees root (omega arith) inside;
-        }
