@@ -71,6 +71,7 @@ fn link_node(ws: &[u32], rows: &mut [u32], mx: &[u64], values: &[u8], i: u32) ->
         × (4 * i + 3 < length rows.old) }
     ensures { Entered values.now ws.now rows.old rows.new i result }
 {
+    // A tag is a number here, since nodes and rows are lent words (C interface).
     let at = 4 * (i as usize);
     if ws[at] == 4 {
         let code = BinaryCode::of((ws[at + 1] % 256) as u8);

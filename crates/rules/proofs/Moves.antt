@@ -37,7 +37,8 @@ module _ {rows : List ℕ} {l r : ℕ} (pair : Pair rows l r) where
   from_right = record { from = omega arith; row = pair.second }
 
   -- side j is a unary: its argument e goes on, beside the other side x
-  again_by : (c : BinaryCode) (d : UnaryCode) (x j : ℕ) {e : ℕ} {s : Outcome} → l + r ≡ x + j → From rows (min l r) x → From rows (min l r) j →
+  again_by : (c : BinaryCode) (d : UnaryCode) (x j : ℕ) {e : ℕ} {s : Outcome} → l + r ≡ x + j →
+      From rows (min l r) x → From rows (min l r) j →
       is_unary d (linked rows j) ≡ true → e ≡ end_at rows j →
       again (Binary c) (linked rows x) (argument (linked rows j)) ≡ s → Moved rows l r s (Some (Again c x e))
   again_by c d x j sum other side h is told =

@@ -35,7 +35,7 @@ pub struct Rules<'a> {
 }
 
 impl Rules<'_> {
-    // Is row j a constant of the value 1, or −1?
+    // Is row j a constant of the value 1, or −1? A tag is a number here, since rows are lent words (C interface).
     fn is_const(&self, j: u32, negative: bool) -> bool
         requires { Row self.now.rows.now j }
         ensures { result ≡ is_const (is_unit negative self.now.values.now) (linked self.now.rows.now j) }

@@ -60,7 +60,8 @@ module _ (u : Units) (ws : List ℕ) (rows : List Row) where
         rw (next k) at (later k (omega arith))
 
 -- what stood in the words and rows stands there tidied
-pub tidied_stands : (values ws : List ℕ) (rows : List Row) {ws' : List ℕ} {rows' : List Row} (count : ℕ) {m : ℕ} (ss : List Statement)
+pub tidied_stands : (values ws : List ℕ) (rows : List Row) {ws' : List ℕ} {rows' : List Row} (count : ℕ) {m : ℕ}
+    (ss : List Statement)
     → sheet_from ws rows 0 count ≡ ss
     → Relaid (tidy_trees values ws rows count) ws rows ws' rows' count m → TidiedStand values ss ws ws' rows' m
 tidied_stands values ws rows {ws'} {rows'} count ss stands relaid =
