@@ -1,38 +1,50 @@
 -- Lines of a text: the first one, comments, and those up to a line 'end'. Assumes nothing.
-use Prim.Native.Nat.{ℕ, suc, ◌+◌, ◌<◌, ◌≤◌}
-use native.Mathlib.Omega.{arith}
-use mathlib.Core.Bool.{Bool, true, false, cond, not, ◌&&◌, false≢true}
-use mathlib.Core.List.{List, [], ◌∷◌}
-use mathlib.Core.Logic.{◌≢◌}
-use mathlib.Core.Path.{◌≡◌, refl, ap, ◌∙◌}
-use lib.Dec.{eqb}
-use lib.ListN.{length, get_or, drop, drop_of_length-le}
-use lib.Seq.{drop-cons, drop-drop}
-use borrow.Author.Tests.{ne_eqb, eq-eqb, eqb-true}
-use Rattle.vectors.specs.Vectors.{begins, stands_at, end_line, line_length, comments_length, end_length}
+use Rattle.std.proofs.Common.{◌≡◌, ℕ, suc, ◌+◌, ◌<◌, Bool, true, false, cond, not, List, [], ◌∷◌, ◌++◌, Some, None, length, drop, nat_eq, nat_lt, refl, sym, ◌∙◌, arith}
+use Rattle.std.specs.List.{position, position_or_len}
+use Rattle.std.proofs.lemmas.Bool.Decides.{Decides-eqb}
+use Rattle.std.proofs.lemmas.Grind.{common_steps}
+use Rattle.std.proofs.lemmas.Slice.Eq.{starts_is}
+use Rattle.std.proofs.lemmas.List.{length-drop}
+use mathlib.Core.Bool.{false≢true}
+use lib.Seq.{drop-drop}
+use Rattle.vectors.specs.Vectors.{begins, end_line, line_length, comments_length, end_length}
 
-module _ (all : List ℕ) (i : ℕ) (inside : i < length all) where
-  line_from_lem : line_length (drop i all) ≡ cond (eqb (get_or all i 0) 10) 1 (suc (line_length (drop (suc i) all)))
-  unfolding line_length
-  line_from_lem = rw (drop-cons all i 0 inside)
+-- ---- the first line
 
-  pub line_ends : get_or all i 0 ≡ 10 → i + 1 ≡ i + line_length (drop i all)
-  line_ends e =
-      let one : line_length (drop i all) ≡ 1 = line_from_lem ∙ rw (eq-eqb _ _ e) in omega (arith, one)
+abbrev pub is_newline : ℕ → Bool
+is_newline b = nat_eq b 10
 
-  pub line_goes_on : get_or all i 0 ≢ 10 → i + line_length (drop i all) ≡ i + 1 + line_length (drop (i + 1) all)
-  line_goes_on n =
-      let next : suc i ≡ i + 1 = omega arith in
-      let more : line_length (drop i all) ≡ suc (line_length (drop (suc i) all)) = line_from_lem ∙ rw (ne_eqb _ _ n) in
-      rw (← next) (omega (arith, more))
-
-pub no_line : (all : List ℕ) (i : ℕ) → length all ≤ i → i ≡ i + line_length (drop i all)
+-- a line ends with the first newline, and otherwise where the text does
+line_at : (text : List ℕ) → line_length text ≡ cond (nat_lt (position_or_len is_newline text) (length text)) (position_or_len is_newline text + 1) (length text)
 unfolding line_length
-no_line all i h = rw (drop_of_length-le all h) (omega arith)
+line_at [] = refl
+line_at (b ∷ bs) = go (nat_eq b 10) (line_at bs)
+  where
+    go : (e : Bool) → line_length bs ≡ cond (nat_lt (position_or_len is_newline bs) (length bs)) (position_or_len is_newline bs + 1) (length bs)
+        → cond e 1 (suc (line_length bs))
+        ≡ cond (nat_lt (cond (not e) (1 + position_or_len is_newline bs) 0) (suc (length bs))) (cond (not e) (1 + position_or_len is_newline bs) 0 + 1) (suc (length bs))
+    go true h = grind arith
+    go false h = grind arith
 
--- what counts the rest of a line counts on from the next one
+pub line_found : (text : List ℕ) (i : ℕ) → Some i ≡ position is_newline text → i + 1 ≡ line_length text
+line_found text i e = grind (arith, line_at text)
+
+pub line_missing : (text : List ℕ) → None ≡ position is_newline text → length text ≡ line_length text
+line_missing text e = grind (arith, line_at text)
+
+pub line_shorter : (text : List ℕ) → 0 < length text → length (drop (line_length text) text) < length text
+unfolding line_length
+line_shorter [] h = absurd (omega arith)
+line_shorter (b ∷ bs) h = go (nat_eq b 10)
+  where
+    go : (e : Bool) → length (drop (cond e 1 (suc (line_length bs))) (b ∷ bs)) < suc (length bs)
+    go true = omega arith
+    go false = omega (arith, length-drop (line_length bs) bs)
+
+-- ---- what counts the rest of a line counts on from the next one
+
 module _ (f : Bool → List ℕ → ℕ) (none : (inside : Bool) → f inside [] ≡ 0)
-    (rest : (b : ℕ) (bs : List ℕ) → f true (b ∷ bs) ≡ suc (f (not (eqb b 10)) bs)) where
+    (rest : (b : ℕ) (bs : List ℕ) → f true (b ∷ bs) ≡ suc (f (not (nat_eq b 10)) bs)) where
   line_then : (b : ℕ) (bs : List ℕ) (e : Bool) → f true bs ≡ line_length bs + f false (drop (line_length bs) bs)
       → suc (f (not e) bs) ≡ cond e 1 (suc (line_length bs)) + f false (drop (cond e 1 (suc (line_length bs))) (b ∷ bs))
   line_then b bs true h = omega arith
@@ -41,73 +53,59 @@ module _ (f : Bool → List ℕ → ℕ) (none : (inside : Bool) → f inside []
   rest_then : (text : List ℕ) → f true text ≡ line_length text + f false (drop (line_length text) text)
   unfolding line_length
   rest_then [] = rw (none true, none false)
-  rest_then (b ∷ bs) = rest b bs ∙ line_then b bs (eqb b 10) (rest_then bs)
+  rest_then (b ∷ bs) = rest b bs ∙ line_then b bs (nat_eq b 10) (rest_then bs)
 
-  -- the same at a place, if its line is counted whole
-  counts_on : (all : List ℕ) (here : ℕ) {next : ℕ} → next ≡ here + line_length (drop here all)
-      → f false (drop here all) ≡ f true (drop here all) → here + f false (drop here all) ≡ next + f false (drop next all)
-  counts_on all here e whole =
-      let then = rest_then (drop here all) in
-      rw (e, ← drop-drop (line_length (drop here all)) here all) (omega (arith, whole, then))
+  -- so far as a line is counted whole, what is left after it is left after all
+  counts_on : (text : List ℕ) {next : List ℕ} → next ≡ drop (line_length text) text → f false text ≡ f true text
+      → drop (f false next) next ≡ drop (f false text) text
+  counts_on text e whole = rw (e, drop-drop (f false (drop (line_length text) text)) (line_length text) text, whole, rest_then text)
 
-module _ (all : List ℕ) (here : ℕ) where
-  -- comments
-  pub comment_passed : {next : ℕ} → here < length all → get_or all here 0 ≡ 35 → next ≡ here + line_length (drop here all)
-      → here + comments_length false (drop here all) ≡ next + comments_length false (drop next all)
-  unfolding comments_length
-  comment_passed inside e after =
-      counts_on comments_length (λ (inside : Bool). refl) (λ b bs. refl) all here after (rw (drop-cons all here 0 inside, e))
+-- ---- comments
 
-  pub no_comment : here < length all → get_or all here 0 ≢ 35 → comments_length false (drop here all) ≡ 0
-  unfolding comments_length
-  no_comment inside n = rw (drop-cons all here 0 inside, ne_eqb _ _ n)
+abbrev hash : List ℕ
+hash = 35 ∷ []
 
-  pub comments_end : length all ≤ here → comments_length false (drop here all) ≡ 0
-  unfolding comments_length
-  comments_end h = rw (drop_of_length-le all h)
+pub no_comment : (text : List ℕ) → false ≡ begins hash text → comments_length false text ≡ 0
+unfolding comments_length begins
+no_comment [] e = refl
+no_comment (b ∷ bs) e = grind (arith, common_steps)
 
-  -- lines up to 'end'
-  other_line : (text : List ℕ) → begins end_line text ≡ false → end_length false text ≡ end_length true text
-  unfolding end_length
-  other_line [] e = refl
-  other_line (b ∷ bs) e = rw e
+pub comment_passed : (text : List ℕ) {next : List ℕ} → true ≡ begins hash text → next ≡ drop (line_length text) text
+    → drop (comments_length false next) next ≡ drop (comments_length false text) text
+unfolding comments_length begins
+comment_passed text e after =
+    let whole : text ≡ 35 ∷ drop 1 text = (starts_is Decides-eqb text hash _ e).0 refl in
+    counts_on comments_length (λ (inside : Bool). refl) (λ b bs. refl) text after (rw whole)
 
-  pub line_passed : {next : ℕ} → stands_at all here end_line ≡ false → next ≡ here + line_length (drop here all)
-      → here + end_length false (drop here all) ≡ next + end_length false (drop next all)
-  unfolding end_length
-  line_passed e after =
-      counts_on end_length (λ (inside : Bool). refl) (λ b bs. refl) all here after (other_line (drop here all) e)
-
-  pub no_end : length all ≤ here → end_length false (drop here all) ≡ 0
-  unfolding end_length
-  no_end h = rw (drop_of_length-le all h)
-
--- a text that begins with b and s is b and a text that begins with s
-record Begun (b : ℕ) (s text : List ℕ) : Type 0 where
-  rest : List ℕ
-  whole : text ≡ b ∷ rest
-  more : begins s rest ≡ true
-
-begun : (b : ℕ) (s text : List ℕ) → begins (b ∷ s) text ≡ true → Begun b s text
+-- a text that begins with bytes is not empty
+pub begins_some : (b : ℕ) (s text : List ℕ) → true ≡ begins (b ∷ s) text → 0 < length text
 unfolding begins
-begun b s [] e = absurd (false≢true e)
-begun b s (c ∷ cs) e = go (eqb c b) refl e
+begins_some b s [] e = absurd (false≢true (sym e))
+begins_some b s (c ∷ cs) e = omega arith
+
+-- ---- lines up to 'end'
+
+pub line_passed : (text : List ℕ) {next : List ℕ} → false ≡ begins end_line text → next ≡ drop (line_length text) text
+    → drop (end_length false next) next ≡ drop (end_length false text) text
+unfolding end_length
+line_passed text e after = counts_on end_length (λ (inside : Bool). refl) (λ b bs. refl) text after (other text e)
   where
-    go : (t : Bool) → eqb c b ≡ t → (t && begins s cs) ≡ true → Begun b s (c ∷ cs)
-    go true f g = record { rest = cs; whole = ap (λ (x : ℕ). x ∷ cs) (eqb-true c b f); more = g }
-    go false f g = absurd (false≢true g)
+    other : (text : List ℕ) → false ≡ begins end_line text → end_length false text ≡ end_length true text
+    other [] e = refl
+    other (b ∷ bs) e = rw (← e)
 
 -- the line 'end' is counted whole
-end_line_lem : (text : List ℕ) → begins end_line text ≡ true → line_length text ≡ end_length false text
-unfolding line_length end_length
-end_line_lem text e =
-    let first = begun 101 (110 ∷ 100 ∷ 10 ∷ []) text e in
-    let second = begun 110 (100 ∷ 10 ∷ []) first.rest first.more in
-    let third = begun 100 (10 ∷ []) second.rest second.more in
-    let fourth = begun 10 [] third.rest third.more in
-    let counted : begins end_line (101 ∷ first.rest) ≡ true = rw first.whole at e in
-    rw (first.whole, counted, second.whole, third.whole, fourth.whole)
+pub line_is_end : (text : List ℕ) → true ≡ begins end_line text → line_length text ≡ end_length false text
+unfolding line_length end_length begins
+line_is_end text e =
+    let whole : text ≡ end_line ++ drop 4 text = (starts_is Decides-eqb text end_line _ e).0 refl in
+    rw whole
 
-pub line_is_end : (all : List ℕ) (here : ℕ) → stands_at all here end_line ≡ true
-    → here + line_length (drop here all) ≡ here + end_length false (drop here all)
-line_is_end all here e = ap (λ (n : ℕ). here + n) (end_line_lem (drop here all) e)
+pub end_shorter : (text : List ℕ) → 0 < length text → length (drop (end_length false text) text) < length text
+unfolding end_length
+end_shorter [] h = absurd (omega arith)
+end_shorter (b ∷ bs) h = go (begins end_line (b ∷ bs))
+  where
+    go : (e : Bool) → length (drop (cond e 4 (suc (end_length (not (nat_eq b 10)) bs))) (b ∷ bs)) < suc (length bs)
+    go true = omega (arith, length-drop 3 bs)
+    go false = omega (arith, length-drop (end_length (not (nat_eq b 10)) bs) bs)

@@ -1,66 +1,47 @@
--- What digits, bytes and numbers a text writes, and how much of it they are. Assumes nothing.
-use Prim.Native.Nat.{ℕ, zero, suc, ◌+◌, ◌-◌, ◌*◌, ◌≤◌, ◌<◌}
-use native.Mathlib.Omega.{arith}
-use mathlib.Core.List.{List, [], ◌∷◌}
-use mathlib.Core.Path.{◌≡◌, refl, ap, ◌∙◌}
-use lib.ListN.{length, get_or, drop, set, length-drop, drop_of_length-le}
-use lib.Seq.{sets, drop-cons, drop-drop}
-use borrow.Author.Tests.{lt-ltb, le-ltb, le-leb, lt-leb}
+-- What digits, bytes and numbers a text writes. Assumes nothing.
+use Rattle.std.proofs.Common.{◌≡◌, ℕ, zero, suc, ◌+◌, ◌-◌, ◌*◌, ◌<◌, ◌≤◌, Bool, true, false, cond, ◌&&◌, List, [], ◌∷◌, length, get_or, drop, refl, ap, subst, ◌∙◌, arith}
+use Rattle.std.specs.Char.{is_ascii_digit}
+use Rattle.std.proofs.lemmas.Bool.Decides.{nat_tests}
+use Rattle.std.proofs.lemmas.List.Edits.{sets}
+use Rattle.std.proofs.lemmas.List.{length-set}
+use lib.ListN.{set, drop_of_length-le}
+use lib.Seq.{drop-drop}
+use mathlib.Core.Bool.{and-false}
+use lib.Dec.{leb}
+use native.Mathlib.Numerals.{add-one}
+use borrow.Author.Tests.{lt-ltb, le-ltb, lt-leb, le-leb}
 use Rattle.limits.specs.Limits.{work_words}
-use Rattle.vectors.specs.Vectors.{digit_of, byte_of, bytes_of, number_from, digits_from}
-
--- ---- a digit
-
-pub digit_low : (b : ℕ) → b < 48 → 16 ≡ digit_of b
-digit_low b h = rw (lt-leb 48 b h, lt-leb 97 b (omega arith)) refl
-
-pub digit_number : (b : ℕ) → 48 ≤ b → b ≤ 57 → b - 48 ≡ digit_of b
-digit_number b h k = rw (le-leb 48 b h, le-leb b 57 k) refl
-
-pub digit_between : (b : ℕ) → 57 < b → b < 97 → 16 ≡ digit_of b
-digit_between b h k = rw (le-leb 48 b (omega arith), lt-leb b 57 h, lt-leb 97 b k) refl
-
-pub digit_letter : (b : ℕ) → 97 ≤ b → b ≤ 102 → b - 97 + 10 ≡ digit_of b
-digit_letter b h k = rw (le-leb 48 b (omega arith), lt-leb b 57 (omega arith), le-leb 97 b h, le-leb b 102 k) refl
-
-pub digit_high : (b : ℕ) → 102 < b → 16 ≡ digit_of b
-digit_high b h =
-    rw (le-leb 48 b (omega arith), lt-leb b 57 (omega arith), le-leb 97 b (omega arith), lt-leb b 102 h) refl
+use Rattle.vectors.specs.Vectors.{digit_of, byte_of, bytes_of, number_from, digits_from, ReadsNumber, ReadsBytes}
 
 -- ---- a byte
 
-short_byte : (text : List ℕ) → length text < 2 → 256 ≡ byte_of text
+pub byte_short : (text : List ℕ) → length text < 2 → 256 ≡ byte_of text
 unfolding byte_of
-short_byte [] h = refl
-short_byte (b ∷ []) h = refl
-short_byte (b ∷ c ∷ bs) h = absurd (omega arith)
+byte_short [] h = refl
+byte_short (b ∷ []) h = refl
+byte_short (b ∷ c ∷ bs) h = absurd (omega arith)
 
-pub byte_short : (all : List ℕ) (at : ℕ) → length all - at < 2 → 256 ≡ byte_of (drop at all)
-byte_short all at h = short_byte (drop at all) (omega (arith, length-drop at all))
+pub byte_no_high : (text : List ℕ) → 16 ≤ digit_of (get_or text 0 0) → 256 ≡ byte_of text
+unfolding byte_of
+byte_no_high [] h = refl
+byte_no_high (b ∷ []) h = refl
+byte_no_high (b ∷ c ∷ bs) h = rw (lt-leb (digit_of b) 15 h) refl
 
-module _ (all : List ℕ) (at : ℕ) where
-  two_digits : at + 2 ≤ length all → drop at all ≡ get_or all at 0 ∷ get_or all (at + 1) 0 ∷ drop (at + 2) all
-  two_digits room =
-      let e : suc at ≡ at + 1 = omega arith in
-      let f : suc (at + 1) ≡ at + 2 = omega arith in
-      drop-cons all at 0 (omega arith)
-      ∙ ap (λ (k : ℕ). get_or all at 0 ∷ drop k all) e
-      ∙ ap (λ (t : List ℕ). get_or all at 0 ∷ t) (drop-cons all (at + 1) 0 (omega arith))
-      ∙ ap (λ (k : ℕ). get_or all at 0 ∷ get_or all (at + 1) 0 ∷ drop k all) f
+pub byte_no_low : (text : List ℕ) → 16 ≤ digit_of (get_or text 1 0) → 256 ≡ byte_of text
+unfolding byte_of
+byte_no_low [] h = refl
+byte_no_low (b ∷ []) h = refl
+byte_no_low (b ∷ c ∷ bs) h = rw (lt-leb (digit_of c) 15 h, and-false (leb (digit_of b) 15)) refl
 
-module _ (all : List ℕ) (at : ℕ) (room : at + 2 ≤ length all) {high low : ℕ}
-    (h : high ≡ digit_of (get_or all at 0)) (l : low ≡ digit_of (get_or all (at + 1) 0)) where
-  pub byte_no_high : 15 < high → 256 ≡ byte_of (drop at all)
-  unfolding byte_of
-  byte_no_high k = rw (two_digits all at room, ← h, lt-leb high 15 k) refl
+pub byte_both : (text : List ℕ) → 2 ≤ length text → digit_of (get_or text 0 0) < 16 → digit_of (get_or text 1 0) < 16
+    → byte_of text ≡ digit_of (get_or text 0 0) * 16 + digit_of (get_or text 1 0)
+unfolding byte_of
+byte_both [] r h l = absurd (omega arith)
+byte_both (b ∷ []) r h l = absurd (omega arith)
+byte_both (b ∷ c ∷ bs) r h l = rw (le-leb (digit_of b) 15 (omega arith), le-leb (digit_of c) 15 (omega arith)) refl
 
-  pub byte_no_low : high ≤ 15 → 15 < low → 256 ≡ byte_of (drop at all)
-  unfolding byte_of
-  byte_no_low j k = rw (two_digits all at room, ← h, ← l, le-leb high 15 j, lt-leb low 15 k) refl
-
-  pub byte_both : high ≤ 15 → low ≤ 15 → high * 16 + low ≡ byte_of (drop at all)
-  unfolding byte_of
-  byte_both j k = rw (two_digits all at room, ← h, ← l, le-leb high 15 j, le-leb low 15 k) refl
+-- a byte as it is written, or why none is
+pub ruleset byte_written = (byte_short, byte_no_high, byte_no_low, byte_both)
 
 -- ---- bytes
 
@@ -74,90 +55,102 @@ module _ (text : List ℕ) where
   unfolding bytes_of
   bytes_more k h = rw (lt-ltb (byte_of text) 256 h) refl
 
-  bytes_full : (k : ℕ) → k ≡ 0 → bytes_of k text ≡ []
+-- n bytes are in the file so far, and the text that is left writes the rest
+pub record BytesSoFar (old file₀ : List ℕ) (n : ℕ) (file text : List ℕ) : Type 0 where
+  pub same : length file ≡ length file₀
+  pub count : n + length (bytes_of (length file₀ - n) text) ≡ length (bytes_of (length file₀) old)
+  pub written : sets file n (bytes_of (length file₀ - n) text) ≡ sets file₀ 0 (bytes_of (length file₀) old)
+  pub rest : text ≡ drop (2 * n) old
+
+module _ {old file₀ : List ℕ} {n : ℕ} {file text : List ℕ} (so_far : BytesSoFar old file₀ n file text) where
+  ended : bytes_of (length file₀ - n) text ≡ [] → ReadsBytes old file₀ n file text
+  ended e =
+      let counted = rw e at so_far.count in
+      record { count = omega (arith, counted); written = rw e at so_far.written; left = so_far.rest }
+
+  pub bytes_stop : 256 ≤ byte_of text → ReadsBytes old file₀ n file text
+  bytes_stop h = ended (bytes_none text (length file₀ - n) h)
+
+  pub bytes_full : {m : ℕ} → length file₀ ≤ n → n ≡ m → ReadsBytes old file₀ m file text
   unfolding bytes_of
-  bytes_full k e = rw e refl
+  bytes_full h m =
+      let e : length file₀ - n ≡ 0 = omega arith in
+      subst (λ (k : ℕ). ReadsBytes old file₀ k file text) m (ended (ap (λ (k : ℕ). bytes_of k text) e))
 
--- n bytes are in the file so far, and the text at 'here' writes the rest; then: all of them are
-abbrev pub BytesSoFar : (all file₀ : List ℕ) (at : ℕ) (file : List ℕ) (here n : ℕ) → Type 0
-BytesSoFar all file₀ at file here n =
-    (n + length (bytes_of (length file₀ - n) (drop here all)) ≡ length (bytes_of (length file₀) (drop at all)))
-    × (here ≡ at + 2 * n)
-    × (sets file n (bytes_of (length file₀ - n) (drop here all)) ≡ sets file₀ 0 (bytes_of (length file₀) (drop at all)))
-
-abbrev pub BytesWhole : (all file₀ : List ℕ) (at : ℕ) (file : List ℕ) (here n : ℕ) → Type 0
-BytesWhole all file₀ at file here n =
-    (n ≡ length (bytes_of (length file₀) (drop at all)))
-    × (here ≡ at + 2 * n)
-    × (file ≡ sets file₀ 0 (bytes_of (length file₀) (drop at all)))
-
-module _ (all file₀ : List ℕ) (at : ℕ) where
-  pub reads_none : BytesSoFar all file₀ at file₀ at 0
-  reads_none =
-      let e : length file₀ - 0 ≡ length file₀ = omega arith in
-      rw e (omega arith, omega arith, refl)
-
-module _ (all file₀ : List ℕ) (at : ℕ) (file : List ℕ) (here n : ℕ) (so_far : BytesSoFar all file₀ at file here n) where
-  pub reads_next : (b : ℕ) → n < length file₀ → b ≡ byte_of (drop here all) → b < 256
-      → BytesSoFar all file₀ at (set file n b) (here + 2) (n + 1)
-  reads_next b room e h =
-      let one_more : n + 1 ≡ suc n = omega arith in
+  pub bytes_next : (b : ℕ) → n < length file₀ → b ≡ byte_of text → b < 256
+      → BytesSoFar old file₀ (n + 1) (set file n b) (drop 2 text)
+  bytes_next b room e h =
       let k = length file₀ - suc n in
       let one_less : length file₀ - n ≡ suc k = omega arith in
-      let more : bytes_of (length file₀ - n) (drop here all) ≡ b ∷ bytes_of k (drop (here + 2) all) =
-      rw (one_less, e, ← drop-drop 2 here all) (bytes_more (drop here all) k (rw e at h)) in
-      let old = rw more at so_far in
-      rw one_more (omega (arith, old.0), omega (arith, old.1), old.2)
-
-  reads_ended : bytes_of (length file₀ - n) (drop here all) ≡ [] → BytesWhole all file₀ at file here n
-  reads_ended e =
-      let old = rw e at so_far in
-      (omega (arith, old.0), old.1, old.2)
-
-  pub reads_stop : (b : ℕ) → b ≡ byte_of (drop here all) → 256 ≤ b → BytesWhole all file₀ at file here n
-  reads_stop b e h = reads_ended (bytes_none (drop here all) (length file₀ - n) (rw e at h))
-
-  pub reads_full : length file₀ ≤ n → BytesWhole all file₀ at file here n
-  reads_full h = reads_ended (bytes_full (drop here all) (length file₀ - n) (omega arith))
+      let more : bytes_of (length file₀ - n) text ≡ b ∷ bytes_of k (drop 2 text) = rw (one_less, e) (bytes_more text k (rw e at h)) in
+      let counted = rw more at so_far.count in
+      let written = rw more at so_far.written in
+      rw add-one (record {
+        same = length-set file n b ∙ so_far.same;
+        count = omega (arith, counted);
+        written = written;
+        rest = ap (drop 2) so_far.rest ∙ drop-drop 2 (2 * n) old ∙ ap (λ (k : ℕ). drop k old) (omega arith);
+      })
 
 -- ---- a number
 
--- the digits so far say n, and the text at 'here' says the rest; then: n is the whole number
-abbrev pub NumberSoFar : (all : List ℕ) (at here n : ℕ) → Type 0
-NumberSoFar all at here n =
-    (number_from n (drop here all) ≡ number_from 0 (drop at all))
-    × (here + digits_from n (drop here all) ≡ at + digits_from 0 (drop at all))
+-- the digits so far say n, small enough for one more; the text that is left says the rest of the number
+pub record NumberSoFar (old : List ℕ) (n : ℕ) (text : List ℕ) : Type 0 where
+  pub small : n ≤ 10 * work_words + 10
+  pub number : number_from n text ≡ number_from 0 old
+  pub rest : drop (digits_from n text) text ≡ drop (digits_from 0 old) old
 
-abbrev pub NumberWhole : (all : List ℕ) (at here n : ℕ) → Type 0
-NumberWhole all at here n = (n ≡ number_from 0 (drop at all)) × (here ≡ at + digits_from 0 (drop at all))
+-- what a step of the digits tests
+abbrev goes_on : (n : ℕ) (text : List ℕ) → Bool
+goes_on n text = leb (digit_of (get_or text 0 0)) 9 && leb n work_words
 
-module _ (all : List ℕ) (at here n : ℕ) (so_far : NumberSoFar all at here n) where
-  pub counts_next : (d : ℕ) → here < length all → d ≡ digit_of (get_or all here 0) → d ≤ 9 → n ≤ work_words
-      → NumberSoFar all at (here + 1) (n * 10 + d)
+number_step_lem : (n : ℕ) (text : List ℕ) → 0 < length text → (number_from n text
+    ≡ cond (goes_on n text) (number_from (n * 10 + digit_of (get_or text 0 0)) (drop 1 text)) n)
+    × (digits_from n text ≡ cond (goes_on n text) (suc (digits_from (n * 10 + digit_of (get_or text 0 0)) (drop 1 text))) 0)
+unfolding number_from digits_from
+number_step_lem n [] h = absurd (omega arith)
+number_step_lem n (b ∷ bs) h = (refl, refl)
+
+drop_one : (text : List ℕ) (k : ℕ) → drop k (drop 1 text) ≡ drop (suc k) text
+drop_one [] zero = refl
+drop_one [] (suc k) = refl
+drop_one (b ∷ bs) k = refl
+
+digit_lem : (b : ℕ) → true ≡ is_ascii_digit b → (digit_of b ≡ b - 48) × (b - 48 ≤ 9)
+digit_lem b e = grind (arith, nat_tests)
+
+no_digit_lem : (b : ℕ) → false ≡ is_ascii_digit b → 9 < digit_of b
+no_digit_lem b e = grind (arith, nat_tests)
+
+module _ {old : List ℕ} {n : ℕ} (text : List ℕ) (so_far : NumberSoFar old n text) where
+  no_more : number_from n text ≡ n → digits_from n text ≡ 0 → ReadsNumber old n text
+  no_more e d = record { number = rw e at so_far.number; left = rw d at so_far.rest }
+
+  pub number_ends : length text ≡ 0 → ReadsNumber old n text
   unfolding number_from digits_from
-  counts_next d room e h k =
-      let one_more : here + 1 ≡ suc here = omega arith in
-      let old = rw (drop-cons all here 0 room, ← e, le-leb d 9 h, le-leb n work_words k) at so_far in
-      rw one_more (old.0, omega (arith, old.1))
+  number_ends h = let e : text ≡ [] = drop_of_length-le text {i = 0} (omega arith) in no_more (rw e) (rw e)
 
-  pub counts_no_digit : (d : ℕ) → here < length all → d ≡ digit_of (get_or all here 0) → 9 < d → NumberWhole all at here n
-  unfolding number_from digits_from
-  counts_no_digit d room e h =
-      let old = rw (drop-cons all here 0 room, ← e, lt-leb d 9 h) at so_far in
-      (old.0, omega (arith, old.1))
+  stops : goes_on n text ≡ false → ReadsNumber old n text
+  stops e = go (length text) refl
+    where
+      go : (k : ℕ) → length text ≡ k → ReadsNumber old n text
+      go zero h = number_ends h
+      go (suc k) h = let step = number_step_lem n text (omega arith) in no_more (rw e at step.0) (rw e at step.1)
 
-  pub counts_over : (d : ℕ) → here < length all → d ≡ digit_of (get_or all here 0) → d ≤ 9 → work_words < n
-      → NumberWhole all at here n
-  unfolding number_from digits_from
-  counts_over d room e h k =
-      let old = rw (drop-cons all here 0 room, ← e, le-leb d 9 h, lt-leb n work_words k) at so_far in
-      (old.0, omega (arith, old.1))
+  pub number_over : work_words < n → ReadsNumber old n text
+  number_over h = stops (rw (lt-leb n work_words h, and-false (leb (digit_of (get_or text 0 0)) 9)) refl)
 
-  pub counts_ended : length all ≤ here → NumberWhole all at here n
-  unfolding number_from digits_from
-  counts_ended h =
-      let old = rw (drop_of_length-le all h) at so_far in
-      (old.0, omega (arith, old.1))
+  pub number_past : false ≡ is_ascii_digit (get_or text 0 0) → ReadsNumber old n text
+  number_past h = let b = get_or text 0 0 in stops (rw (lt-leb (digit_of b) 9 (no_digit_lem b h)) refl)
 
--- a byte as it is written, or why none is
-pub ruleset byte_written = (byte_short, byte_no_high, byte_no_low, byte_both)
+  pub number_next : {m : ℕ} → 0 < length text → true ≡ is_ascii_digit (get_or text 0 0) → n ≤ work_words
+      → m ≡ n * 10 + (get_or text 0 0 - 48) → NumberSoFar old m (drop 1 text)
+  number_next {m} r h small e =
+      let step = number_step_lem n text r in
+      let b = get_or text 0 0 in
+      let digit = digit_lem b h in
+      let on : goes_on n text ≡ true = rw (digit.0, le-leb (b - 48) 9 digit.1, le-leb n work_words small) refl in
+      let value : m ≡ n * 10 + digit_of b = rw digit.0 e in
+      let number : number_from n text ≡ number_from m (drop 1 text) = step.0 ∙ rw (on, value) refl in
+      let more : digits_from n text ≡ suc (digits_from m (drop 1 text)) = step.1 ∙ rw (on, value) refl in
+      record { small = omega arith; number = rw number at so_far.number; rest = drop_one text _ ∙ rw more at so_far.rest }

@@ -1,20 +1,16 @@
--- The recorded vectors as text: what stands where, and how long it is (model/README.md has the format).
-use Rattle.std.specs.Prelude.{ℕ, zero, suc, ◌+◌, ◌-◌, ◌*◌, Bool, true, false, cond, not, ◌&&◌, List, [], ◌∷◌, eqb, leb, ltb, length, drop}
+-- The recorded vectors as text: what a text begins with, and how long it is (model/README.md has the format).
+use Rattle.std.specs.Prelude.{ℕ, zero, suc, ◌+◌, ◌-◌, ◌*◌, Bool, true, false, cond, not, ◌&&◌, nat_eq, List, [], ◌∷◌, ◌≡◌, eqb, leb, ltb, length, drop}
+use Rattle.std.specs.List.{starts_with}
+use Rattle.std.proofs.lemmas.List.Edits.{sets}
 use Rattle.limits.specs.Limits.{work_words}
 
 -- a text begins with the bytes s
 unfoldable pub begins : (s text : List ℕ) → Bool
-begins [] text = true
-begins (b ∷ bs) [] = false
-begins (b ∷ bs) (c ∷ cs) = eqb c b && begins bs cs
+begins s text = starts_with nat_eq text s
 
--- they stand at a place
-abbrev pub stands_at : (all : List ℕ) (at : ℕ) (s : List ℕ) → Bool
-stands_at all at s = begins s (drop at all)
-
--- the place after them, and otherwise the end
-abbrev pub place_after : (all : List ℕ) (at : ℕ) (s : List ℕ) → ℕ
-place_after all at s = cond (stands_at all at s) (at + length s) (length all)
+-- what is left after them; where it does not begin with them, nothing
+abbrev pub after : (s text : List ℕ) → List ℕ
+after s text = cond (begins s text) (drop (length s) text) []
 
 -- 'end' and a newline
 abbrev pub end_line : List ℕ
@@ -52,10 +48,6 @@ unfoldable pub bytes_of : (most : ℕ) → List ℕ → List ℕ
 bytes_of zero text = []
 bytes_of (suc n) text = cond (ltb (byte_of text) 256) (byte_of text ∷ bytes_of n (drop 2 text)) []
 
--- those at a place, as many as the file has room for
-abbrev pub bytes_at : (all : List ℕ) (at : ℕ) (file : List ℕ) → List ℕ
-bytes_at all at file = bytes_of (length file) (drop at all)
-
 -- a decimal number whose digits so far say n, as far as it is at most 16,384; and how many digits more there are
 unfoldable pub number_from : (n : ℕ) → List ℕ → ℕ
 number_from n [] = n
@@ -64,3 +56,14 @@ number_from n (b ∷ bs) = cond (leb (digit_of b) 9 && leb n work_words) (number
 unfoldable pub digits_from : (n : ℕ) → List ℕ → ℕ
 digits_from n [] = 0
 digits_from n (b ∷ bs) = cond (leb (digit_of b) 9 && leb n work_words) (suc (digits_from (n * 10 + digit_of b) bs)) 0
+
+-- a number is read: n, and what is left after its digits
+pub record ReadsNumber (text : List ℕ) (n : ℕ) (rest : List ℕ) : Type 0 where
+  pub number : n ≡ number_from 0 text
+  pub left : rest ≡ drop (digits_from 0 text) text
+
+-- bytes are read into the file old: n of them, and what is left after them
+pub record ReadsBytes (text old : List ℕ) (n : ℕ) (new rest : List ℕ) : Type 0 where
+  pub count : n ≡ length (bytes_of (length old) text)
+  pub written : new ≡ sets old 0 (bytes_of (length old) text)
+  pub left : rest ≡ drop (2 * n) text

@@ -1,182 +1,141 @@
-// The recorded vectors as text: what stands where, and the place after it.
+// The recorded vectors as text: what they begin with, and what is left after it.
 #![tactic(auto)]
 
-ghost use Rattle.std.specs.Prelude.{◌≡◌, ◌+◌, ◌*◌, ◌≤◌, ◌<◌, true, false, length, take, drop};
-ghost use Rattle.std.proofs.lemmas.List.Edits.{sets};
-ghost use Rattle.vectors.specs.Vectors.{stands_at, place_after, end_line, line_length, end_length, comments_length};
-ghost use Rattle.vectors.specs.Vectors.{digit_of, byte_of, bytes_at, number_from, digits_from};
+ghost use Rattle.std.specs.Prelude.{◌≡◌, ◌≤◌, ◌<◌, false, length, take, drop, IsTrue, ◌↔◌, OnSome, SomeIff};
+ghost use Rattle.vectors.specs.Vectors.{begins, after, line_length, end_length, comments_length};
+ghost use Rattle.vectors.specs.Vectors.{digit_of, byte_of, ReadsNumber, ReadsBytes};
 
 use limits::WORK;
 
-// A number read, or a count, and the place after it.
-#[derive(Clone, Copy)]
-pub struct Found {
-    pub n: usize,
-    pub at: usize,
+// What is left of the vectors.
+#[derive(Clone, Copy, Debug)]
+pub struct Cursor<'a> {
+    pub text: &'a [u8],
 }
 
-// Whether the bytes s stand at a place of the vectors.
-#[tactic(auto, using(crate::proofs::Standing::standing))]
-fn has(all: &[u8], at: usize, s: &[u8]) -> bool
-    requires { at ≤ length all.now }
-    ensures { (result ≡ stands_at all.now at s.now)
-        × (result ≡ true → at + length s.now ≤ length all.now) }
-{
-    if all.len() - at < s.len() {
-        return false;
+impl<'a> Cursor<'a> {
+    // Whether the text begins with the bytes s.
+    #[tactic(auto, unfolding(crate::specs::Vectors::begins))]
+    pub fn begins(&self, s: &[u8]) -> bool
+        ensures value { result ≡ begins s.now self.now.text.now }
+        ensures within { IsTrue result → length s.now ≤ length self.now.text.now }
+    {
+        self.text.starts_with(s)
     }
-    let mut i = 0;
-    while i < s.len() {
-        if all[at + i] != s[i] {
-            return false;
+
+    // Whether no text is left.
+    pub fn is_empty(&self) -> bool
+        ensures { IsTrue result ↔ (length self.now.text.now ≡ 0) }
+    {
+        self.text.is_empty()
+    }
+
+    // Goes past s where the text begins with it, and otherwise to the end, where no text begins.
+    pub fn skip(&mut self, s: &[u8])
+        ensures { self.new.text.now ≡ after s.now self.old.text.now }
+    {
+        self.text = if self.begins(s) {
+            &self.text[s.len()..]
+        } else {
+            &[]
+        };
+    }
+
+    // Goes past the first line.
+    #[tactic(auto, using(crate::proofs::Lines::line_shorter))]
+    fn skip_line(&mut self)
+        ensures rest { self.new.text.now ≡ drop (line_length self.old.text.now) self.old.text.now }
+        ensures shorter { 0 < length self.old.text.now → length self.new.text.now < length self.old.text.now }
+    {
+        self.text = &self.text[line_length(self.text)..];
+    }
+
+    // Goes past the next line `end`.
+    #[tactic(auto, using(crate::proofs::Lines::line_is_end, crate::proofs::Lines::line_passed, crate::proofs::Lines::end_shorter))]
+    pub fn skip_vector(&mut self)
+        ensures shorter { 0 < length self.old.text.now → length self.new.text.now < length self.old.text.now }
+        ensures rest { self.new.text.now ≡ drop (end_length false self.old.text.now) self.old.text.now }
+    {
+        while !self.text.is_empty() {
+            let is_end = self.begins(b"end\n");
+            self.skip_line();
+            if is_end {
+                return;
+            }
         }
-        i += 1;
     }
-    true
-}
 
-// Whether a line `end` stands at a place.
-pub fn ends(all: &[u8], at: usize) -> bool
-    requires { at ≤ length all.now }
-    ensures { result ≡ stands_at all.now at end_line }
-{
-    has(all, at, b"end\n")
-}
-
-// The place after s where it stands there, and otherwise the end, where no text stands.
-pub fn past(all: &[u8], at: usize, s: &[u8]) -> usize
-    requires { at ≤ length all.now }
-    ensures { (result ≡ place_after all.now at s.now) × (result ≤ length all.now) }
-{
-    if has(all, at, s) {
-        return at + s.len();
-    }
-    all.len()
-}
-
-// The place after the line that begins at a place.
-#[tactic(auto, using(crate::proofs::Lines::line_ends, crate::proofs::Lines::line_goes_on, crate::proofs::Lines::no_line))]
-fn next_line(all: &[u8], at: usize) -> usize
-    requires { at < length all.now }
-    ensures { (result ≡ at + line_length (drop at all.now)) × (at < result) × (result ≤ length all.now) }
-{
-    let mut i = at;
-    while i < all.len() {
-        if all[i] == b'\n' {
-            return i + 1;
+    // Goes past the comment lines that the text begins with.
+    #[tactic(auto, using(crate::proofs::Lines::no_comment, crate::proofs::Lines::comment_passed))]
+    pub fn skip_comments(&mut self)
+        ensures { self.new.text.now ≡ drop (comments_length false self.old.text.now) self.old.text.now }
+    {
+        while self.begins(b"#") {
+            self.skip_line();
         }
-        i += 1;
     }
-    i
-}
 
-// The place after the next line `end`.
-#[tactic(auto, using(crate::proofs::Lines::line_is_end, crate::proofs::Lines::line_passed, crate::proofs::Lines::no_end))]
-pub fn past_end(all: &[u8], at: usize) -> usize
-    requires { at < length all.now }
-    ensures { (result ≡ at + end_length false (drop at all.now)) × (at < result) × (result ≤ length all.now) }
-{
-    let mut here = at;
-    while here < all.len() {
-        let next = next_line(all, here);
-        if ends(all, here) {
-            return next;
+    // Reads bytes of two hexadecimal digits each into the file, as many as are there and have room, and answers how many.
+    pub fn read_bytes(&mut self, file: &mut [u8]) -> usize
+        ensures read { ReadsBytes self.old.text.now file.old result file.new self.new.text.now }
+        ensures within { (result ≤ length file.new) × (result ≡ length (take result file.new)) }
+    {
+        for (n, byte) in file.iter_mut().enumerate() {
+            let Some(b) = byte_of(self.text) else {
+                return n;
+            };
+            *byte = b;
+            self.text = &self.text[2..];
         }
-        here = next;
+        file.len()
     }
-    here
-}
 
-// The place after the comment lines at a place.
-#[tactic(auto, using(crate::proofs::Lines::comment_passed, crate::proofs::Lines::no_comment, crate::proofs::Lines::comments_end))]
-pub fn past_comments(all: &[u8], at: usize) -> usize
-    requires { at ≤ length all.now }
-    ensures { (result ≡ at + comments_length false (drop at all.now))
-        × (at ≤ result) × (result ≤ length all.now) }
-{
-    let mut here = at;
-    while here < all.len() {
-        if all[here] != b'#' {
-            return here;
+    // Reads a number written in decimal; where it is over 16,384, not every digit is read.
+    pub fn read_number(&mut self) -> usize
+        ensures { ReadsNumber self.old.text.now result self.new.text.now }
+    {
+        let mut n = 0;
+        while let [b, ..] = self.text {
+            if !b.is_ascii_digit() || n > WORK {
+                return n;
+            }
+            n = n * 10 + usize::from(*b - b'0');
+            self.text = &self.text[1..];
         }
-        here = next_line(all, here);
+        n
     }
-    here
 }
 
-// The value of a digit, and 16 for any other byte.
-fn digit(b: u8) -> u8
-    ensures { (result ≡ digit_of b) × (result ≤ 16) }
+// The length of a text's first line, with its newline.
+fn line_length(text: &[u8]) -> usize
+    ensures value { result ≡ line_length text.now }
+    ensures within { result ≤ length text.now }
+{
+    match text.iter().position(|&b| b == b'\n') {
+        Some(i) => i + 1,
+        None => text.len(),
+    }
+}
+
+// The value of a hexadecimal digit.
+fn digit(b: u8) -> Option<u8>
+    ensures { SomeIff result (digit_of b < 16) (digit_of b) }
 {
     match b {
-        b'0'..=b'9' => b - b'0',
-        b'a'..=b'f' => b - b'a' + 10,
-        _ => 16,
+        b'0'..=b'9' => Some(b - b'0'),
+        b'a'..=b'f' => Some(b - b'a' + 10),
+        _ => None,
     }
 }
 
-// The byte written in two hexadecimal digits at a place, and 256 where none is.
+// The byte that a text begins with, in two hexadecimal digits.
 #[tactic(auto, using(crate::proofs::Written::byte_written))]
-fn byte_at(all: &[u8], at: usize) -> u16
-    requires { at ≤ length all.now }
-    ensures { (result ≡ byte_of (drop at all.now)) × (result < 256 → at + 2 ≤ length all.now) }
+fn byte_of(text: &[u8]) -> Option<u8>
+    ensures value { SomeIff result (byte_of text.now < 256) (byte_of text.now) }
+    ensures within { OnSome result (2 ≤ length text.now) }
 {
-    if all.len() - at < 2 {
-        return 256;
-    }
-    let high = digit(all[at]);
-    let low = digit(all[at + 1]);
-    if 15 < high {
-        return 256;
-    }
-    if 15 < low {
-        return 256;
-    }
-    high as u16 * 16 + low as u16
-}
-
-// The bytes written at a place, and how many there are.
-#[tactic(auto, using(crate::proofs::Written::reads_none, crate::proofs::Written::reads_full))]
-pub fn read_bytes(all: &[u8], at: usize, file: &mut [u8]) -> Found
-    requires { at ≤ length all.now }
-    ensures n_value { (result.n ≡ length (bytes_at all.now at file.old)) × (result.at ≡ at + 2 * result.n)
-        × (file.new ≡ sets file.old 0 (bytes_at all.now at file.old)) }
-    ensures at_in_bounds { result.at ≤ length all.now }
-    ensures n_in_bounds { (result.n ≤ length file.new) × (result.n ≡ length (take result.n file.new)) }
-{
-    let mut here = at;
-    let mut n: usize = 0;
-    while n < file.len() {
-        let b = byte_at(all, here);
-        if 255 < b {
-            return Found { n: n, at: here };
-        }
-        file[n] = b as u8;
-        here += 2;
-        n += 1;
-    }
-    Found { n: n, at: here }
-}
-
-// The number written in decimal at a place; where it is over 16,384, not every digit is read.
-#[tactic(auto, using(crate::proofs::Written::counts_ended))]
-pub fn read_number(all: &[u8], at: usize) -> Found
-    requires { at ≤ length all.now }
-    ensures { (result.n ≡ number_from 0 (drop at all.now))
-        × (result.at ≡ at + digits_from 0 (drop at all.now)) × (result.at ≤ length all.now) }
-{
-    let mut here = at;
-    let mut n: usize = 0;
-    while here < all.len() {
-        let d = digit(all[here]);
-        if 9 < d {
-            return Found { n: n, at: here };
-        }
-        if WORK < n {
-            return Found { n: n, at: here };
-        }
-        n = n * 10 + d as usize;
-        here += 1;
-    }
-    Found { n: n, at: here }
+    let [high, low, ..] = text else {
+        return None;
+    };
+    Some(digit(*high)? * 16 + digit(*low)?)
 }
