@@ -1,116 +1,133 @@
 -- Texts written one after another. Assumes nothing.
-use Prim.Native.Nat.{ℕ, ◌+◌, ◌*◌, ◌≤◌, ◌<◌}
+use Rattle.std.proofs.Common.{◌≡◌, ℕ, suc, ◌+◌, ◌*◌, ◌^◌, ◌<◌, ◌≤◌, List, [], ◌∷◌, ◌++◌, length, take, drop, append_assoc, refl, sym, ap, ap₂, ◌∙◌, arith}
+use Rattle.std.proofs.lemmas.List.{length-append}
+use Rattle.std.specs.Fmt.{decimal as std_decimal}
+use Rattle.std.proofs.lemmas.Fmt.{AppendsLastDigit, decimal_from_appends, length-decimal-le}
+use lib.Seq.{sets, sets-eq, length-sets, take_at, drop-drop}
+use lib.ListN.{set}
+use native.Mathlib.Nat.{add-zero}
 use native.Mathlib.Numerals.{add-one}
-use native.Mathlib.Omega.{arith}
-use mathlib.Core.List.{List, [], ◌∷◌, ◌++◌}
-use mathlib.Core.Path.{◌≡◌, refl, sym, ap, ap₂, ◌∙◌}
-use lib.ListN.{length, get_or, take, set, length-append, length-set}
-use lib.Seq.{length-sets, take-suc}
+use borrow.Author.Tests.{lt-ltb, le-ltb, ne_eqb}
+use borrow.Rule.Slice.PartMut.{put_mid}
 use Rattle.limits.specs.Limits.{line_limit}
+use Rattle.operation.specs.Names.{bytes}
+use Rattle.definitions.specs.Operations.{Temp, Ret}
+use Rattle.definitions.specs.Text.{decimal_below, decimal, register_text, place_text, answer_text}
+use Rattle.symbol.specs.declared.Loc.{Loc}
+use Rattle.symbol.specs.Place.{word_place, index_of}
 use Rattle.definitions.specs.Answer.{Answer, answer}
-use Rattle.definitions.specs.Text.{answer_text}
-use Rattle.text.specs.declared.Line.{Line}
-use Rattle.text.specs.Line.{Prints, counts_text, refused_text, line_at, lines_of, text_of, answer_of, Writes, WritesAnswer}
-use Rattle.text.proofs.Lines.{sets_after, sets_first}
-use Rattle.text.proofs.Whole.{printed, answer_text_accepted, answer_text_refused, answer_roomy}
+use Rattle.text.specs.declared.Text.{Text}
+use Rattle.text.specs.Text.{HasRoom, Adds}
+use Rattle.text.specs.Line.{counts_text, refused_text, line_at, lines_of, answer_of, WritesAnswer}
+use Rattle.text.proofs.Whole.{answer_text_accepted, answer_text_refused, answer_roomy}
 
-module _ {old : List ℕ} {at : ℕ} where
-  pub writes_then : {mid new xs ys : List ℕ} {here r : ℕ} → Writes old at xs mid here → Writes mid here ys new r
-      → Writes old at (xs ++ ys) new r
-  writes_then {mid} {new} {xs} {ys} p q =
+pub sets_after : (us vs ws : List ℕ) (i : ℕ) → sets (sets ws i us) (i + length us) vs ≡ sets ws i (us ++ vs)
+sets_after [] vs ws i = ap (λ (k : ℕ). sets ws k vs) (add-zero i)
+sets_after (u ∷ us) vs ws i =
+    let e : i + suc (length us) ≡ suc i + length us = omega arith in rw e (sets_after us vs (set ws i u) (suc i))
+
+pub sets_first : (us ws : List ℕ) → length us ≤ length ws → take (length us) (sets ws 0 us) ≡ us
+sets_first us ws h = ap (take (length us)) (sets-eq us ws 0 (omega arith)) ∙ take_at us _ (length us) refl
+
+module _ {l : Text} where
+  pub adds_then : {m r : Text} {xs ys : List ℕ} {j k : ℕ} → Adds l xs j m → Adds m ys k r → Adds l (xs ++ ys) (j + k) r
+  adds_then {m} {r} {xs} {ys} p q =
       record {
-        whole = q.whole ∙ rw (p.whole, p.after) (sets_after xs ys old at);
+        lent = q.lent ∙ p.lent;
+        whole = q.whole ∙ rw (p.whole, p.after) (sets_after xs ys l.bytes.now l.len);
         after = omega (arith, p.after, q.after, length-append xs ys);
-        inside = q.inside;
+        room = q.room ∙ p.room;
+        within = omega (arith, p.within, q.within, length-append xs ys);
       }
 
-  pub writes_length : {new xs : List ℕ} {r : ℕ} → Writes old at xs new r → length new ≡ length old
-  writes_length {new} {xs} p = ap length p.whole ∙ length-sets old at xs
+  pub adds_within : {r : Text} {xs : List ℕ} {j : ℕ} (k : ℕ) → j ≤ k → Adds l xs j r → Adds l xs k r
+  adds_within k h p = record { lent = p.lent; whole = p.whole; after = p.after; room = p.room; within = omega (arith, p.within) }
 
--- ---- a text byte by byte
+  pub adds_as : {r : Text} {xs ys : List ℕ} {j k : ℕ} → xs ≡ ys → j ≤ k → Adds l xs j r → Adds l ys k r
+  adds_as {k = k} e h p = rw e at (adds_within k h p)
 
-abbrev pub WritesSoFar : (old : List ℕ) (at : ℕ) (xs : List ℕ) (i : ℕ) (new : List ℕ) → Type 0
-WritesSoFar old at xs i new = Writes old at (take i xs) new (at + i)
+  pub adds_ends : {r x : Text} {xs : List ℕ} {k : ℕ} → Adds l xs k r → x ≡ r → Adds l xs k x
+  adds_ends p e = rw e p
 
-module _ (old : List ℕ) (at : ℕ) (xs : List ℕ) where
-  pub writes_none : at ≤ length old → WritesSoFar old at xs 0 old
-  writes_none h = record { whole = refl; after = refl; inside = omega arith }
-
-  pub writes_next : (i : ℕ) {new : List ℕ} → i < length xs → at + i < length new → WritesSoFar old at xs i new
-      → WritesSoFar old at xs (i + 1) (set new (at + i) (get_or xs i 0))
-  writes_next i {new} h room p =
-      let b = get_or xs i 0 in
-      let byte : Writes new (at + i) (b ∷ []) (set new (at + i) b) (at + (i + 1)) =
-      record { whole = refl; after = omega arith; inside = omega (arith, length-set new (at + i) b) } in
-      rw (add-one, take-suc xs i 0 h, ← add-one) (writes_then p byte)
-
-  pub writes_all : (i n : ℕ) {new : List ℕ} → i ≡ n → WritesSoFar old at xs i new → Writes old at (take n xs) new (at + n)
-  writes_all i n e p = rw e at p
-
--- ---- lines
-
-module _ {old : List ℕ} {at : ℕ} where
-  -- a line that prints xs
-  pub writes_line : {l : Line} {xs new : List ℕ} {r : ℕ} → Prints l xs → Writes old at (text_of l) new r → Writes old at xs new r
-  writes_line {l} {xs} p w = rw (printed l xs p) at w
-
-  -- is no longer than a line may be
-  pub line_within : {l : Line} {xs new : List ℕ} {r : ℕ} → Prints l xs → Writes old at (text_of l) new r → r ≤ at + line_limit
-  line_within p w = omega (arith, w.after, p.lent.counted, p.within)
-
--- the first i operations have their lines
-abbrev pub LinesSoFar : (old : List ℕ) (at : ℕ) (ws : List ℕ) (i : ℕ) (new : List ℕ) (here : ℕ) → Type 0
-LinesSoFar old at ws i new here =
-    (here ≤ at + line_limit * i) × (length new ≡ length old) × Writes old at (lines_of ws i) new here
-
-module _ (old : List ℕ) (at : ℕ) (ws : List ℕ) where
-  pub lines_none : at ≤ length old → LinesSoFar old at ws 0 old at
+  pub lines_next : {m r : Text} (ws : List ℕ) (i : ℕ) {j : ℕ} → j ≤ line_limit → Adds l (lines_of ws i) (line_limit * i) m
+      → Adds m (line_at ws i) j r → Adds l (lines_of ws (i + 1)) (line_limit * (i + 1)) r
   unfolding lines_of
-  lines_none h = (omega arith, refl, record { whole = refl; after = omega arith; inside = h })
+  lines_next ws i h p q = rw add-one (adds_within (line_limit * suc i) (omega arith) (adds_then p q))
 
-  pub lines_next : (i : ℕ) {l : Line} {mid new : List ℕ} {here r : ℕ} → LinesSoFar old at ws i mid here → Prints l (line_at ws i)
-      → Writes mid here (text_of l) new r → LinesSoFar old at ws (i + 1) new r
+  pub lines_none : (ws : List ℕ) → Adds l (lines_of ws 0) (line_limit * 0) l
   unfolding lines_of
-  lines_next i so_far p w =
-      let line = line_within p w in
-      rw add-one (omega (arith, so_far.0, line), writes_length w ∙ so_far.1, writes_then so_far.2 (writes_line p w))
+  lines_none ws = record { lent = refl; whole = refl; after = omega arith; room = refl; within = omega arith }
 
-  pub lines_all : (i n : ℕ) {new : List ℕ} {here : ℕ} → i ≡ n → LinesSoFar old at ws i new here →
-      Writes old at (lines_of ws n) new here
-  lines_all i n e so_far = rw e at so_far.2
+-- what is pushed
+put_sets : (bs s ys : List ℕ) (at : ℕ) {k : ℕ} → ys ≡ s → k ≡ length s → at + length s ≤ length bs → put_mid at k bs ys ≡ sets bs at s
+put_sets bs s ys at e n h =
+    rw (e, n, drop-drop (length s) at bs, ← append_assoc (take at bs) s (drop (at + length s) bs)) (sym (sets-eq s bs at h))
+
+pub pushed : (l : Text) (s ys : List ℕ) {k : ℕ} → HasRoom l (length s) → ys ≡ s → k ≡ length s
+    → Adds l s (length s) (record { bytes = record l.bytes { now = put_mid l.len k l.bytes.now ys }; len = l.len + length s })
+pushed l s ys h e n = record {
+  lent = refl;
+  whole = put_sets l.bytes.now s ys l.len e n h;
+  after = refl;
+  room = ap length (put_sets l.bytes.now s ys l.len e n h) ∙ length-sets l.bytes.now l.len s;
+  within = omega arith;
+}
+
+-- ---- numbers
+
+appends_digits : AppendsLastDigit decimal_below
+unfolding decimal_below
+appends_digits = record { one = λ k n h. rw (lt-ltb n 10 h); more = λ k n h. rw (le-ltb n 10 h) }
+
+-- a number's text is std's
+pub decimal_lem : (n : ℕ) → n < 2 ^ 32 → std_decimal n ≡ decimal n
+decimal_lem n h = sym (decimal_from_appends decimal_below appends_digits 10 n (omega arith) (length-decimal-le 10 n (omega arith) (omega arith) (omega arith)))
+
+-- ---- registers
+
+module _ {l x : Text} where
+  pub register_temp : (r : ℕ) → r ≡ Temp → Adds l (bytes " t") 2 x → Adds l (register_text r) 12 x
+  register_temp r e p = rw e (adds_within 12 (omega arith) p)
+
+  pub register_ret : (r : ℕ) → r ≡ Ret → Adds l (bytes " v") 2 x → Adds l (register_text r) 12 x
+  register_ret r e p = rw e (adds_within 12 (omega arith) p)
+
+  pub register_number : (r : ℕ) → (r ≡ Temp → ⊥) → (r ≡ Ret → ⊥) → Adds l (bytes " r" ++ decimal r) 12 x
+      → Adds l (register_text r) 12 x
+  register_number r t v p = rw (ne_eqb r Temp t, ne_eqb r Ret v) p
+
+  pub place_lem : (w : ℕ) (s : List ℕ) {p : Loc} {i k : ℕ} → p ≡ word_place w → i ≡ index_of p → place_text p ≡ s ++ decimal (index_of p)
+      → Adds l (s ++ decimal i) k x → Adds l (place_text (word_place w)) k x
+  place_lem w s e n t h = rw (← e, t, ← n) h
 
 -- ---- the text of an answer
 
-module _ {old new : List ℕ} {r : ℕ} where
-  writes_answer : (a : Answer) (xs : List ℕ) → answer_text a ≡ xs → Writes old 0 xs new r → WritesAnswer a old new r
-  writes_answer a xs e w =
-      let v : Writes old 0 (answer_text a) new r = rw e w in
-      let count : r ≡ length (answer_text a) = omega (arith, v.after) in
-      let room : length (answer_text a) ≤ length old = omega (arith, v.inside, writes_length v) in
-      let text : take r new ≡ answer_text a = ap₂ take count v.whole ∙ sets_first (answer_text a) old room in
+module _ {l : Text} (t : Text) {k : ℕ} {new : List ℕ} (z : l.len ≡ 0) (n : new ≡ t.bytes.now) (fits : k ≤ length l.bytes.now) where
+  writes_answer : (a : Answer) {xs : List ℕ} → answer_text a ≡ xs → Adds l xs k t → WritesAnswer a l.bytes.now new t.len
+  writes_answer a e q =
+      let text = answer_text a in
+      let p : Adds l text k t = rw e q in
+      let count : t.len ≡ length text = omega (arith, p.after) in
+      let whole : new ≡ sets l.bytes.now 0 text = n ∙ p.whole ∙ ap (λ (i : ℕ). sets l.bytes.now i text) z in
+      let first : take t.len new ≡ text = ap₂ take count whole ∙ sets_first text l.bytes.now (omega (arith, p.within)) in
       record {
-        whole = v.whole;
+        whole = whole;
         count = count;
-        first = text;
-        inside = v.inside;
-        counted = count ∙ sym (ap length text);
+        first = first;
+        inside = omega (arith, p.within, p.room, ap length n);
+        counted = count ∙ sym (ap length first);
       }
 
   module _ (number ops temps : ℕ) (out : List ℕ) where
-    pub writes_refused : {l : Line} → (number ≡ 0 → ⊥) → Prints l (refused_text number) → Writes old 0 (text_of l) new r
-        → WritesAnswer (answer_of number ops temps out) old new r
-    writes_refused n p w =
-        let a = answer_of number ops temps out in
-        writes_answer a (refused_text number) (answer_text_refused a n) (writes_line p w)
+    pub writes_refused : (number ≡ 0 → ⊥) → Adds l (refused_text number) k t
+        → WritesAnswer (answer_of number ops temps out) l.bytes.now new t.len
+    writes_refused ne p = let a = answer_of number ops temps out in writes_answer a (answer_text_refused a ne) p
 
-    pub writes_accepted : {l : Line} {mid : List ℕ} {here : ℕ} → number ≡ 0 → 6 * ops ≤ length out
-        → Prints l (counts_text ops temps)
-        → Writes old 0 (text_of l) mid here → Writes mid here (lines_of out ops) new r
-        → WritesAnswer (answer_of number ops temps out) old new r
-    writes_accepted z h p w v =
+    pub writes_accepted : number ≡ 0 → 6 * ops ≤ length out → Adds l (counts_text ops temps ++ lines_of out ops) k t
+        → WritesAnswer (answer_of number ops temps out) l.bytes.now new t.len
+    writes_accepted e h p =
         let a = answer_of number ops temps out in
-        writes_answer a (counts_text ops temps ++ lines_of out ops) (answer_text_accepted a z (record { room = h }))
-        (writes_then (writes_line p w) v)
+        writes_answer a (answer_text_accepted a e (record { room = h })) p
 
 -- the same by the answer's parts: the numbers that a caller has, and the words of the output
 module _ (file : List ℕ) (work room : ℕ) {n : ℕ} {out : List ℕ} (ops : n ≡ (answer file work room).ops)

@@ -5,7 +5,6 @@ use mathlib.Core.Bool.{Bool, true, false, cond}
 use mathlib.Core.List.{List, [], ◌∷◌, ◌++◌, append-nil, append_assoc}
 use mathlib.Core.Path.{◌≡◌, refl, sym, ap, ap₂, ◌∙◌}
 use lib.ListN.{length, get_or, take, replicate, length-append}
-use lib.Seq.{take_at}
 use lib.Dec.{ltb}
 use Rattle.limits.specs.Limits.{work_words, index_end}
 use Rattle.definitions.specs.Statement.{Statement}
@@ -15,12 +14,7 @@ use Rattle.definitions.specs.Operations.{Op, list_words, words_list}
 use Rattle.definitions.specs.Answer.{Answer, refusal, acceptance, compiled, judged, answer}
 use Rattle.definitions.specs.Text.{lines_text, answer_text, text_by}
 use Rattle.definitions.proofs.Words.{list_words_length}
-use Rattle.text.specs.declared.Line.{Line}
-use Rattle.text.specs.Line.{Prints, line_text, counts_text, refused_text, line_at, lines_of}
-
--- what a caller prints of a line is its text
-pub printed : (r : Line) (xs : List ℕ) → Prints r xs → take r.len r.bytes ≡ xs
-printed r xs p = ap (λ (l : Line). take l.len l.bytes) p.whole ∙ take_at xs _ (length xs) refl
+use Rattle.text.specs.Line.{line_text, counts_text, refused_text, line_at, lines_of}
 
 -- ---- six words a line
 

@@ -1,38 +1,16 @@
 -- Lines of text as they are made: document 01, 'The program `sheet`'.
-use Rattle.std.specs.Prelude.{ℕ, zero, suc, ◌+◌, ◌*◌, ◌-◌, ◌≤◌, List, [], ◌++◌, ◌≡◌, length, get_or, take, replicate}
+use Rattle.std.specs.Prelude.{ℕ, zero, suc, ◌+◌, ◌*◌, ◌≤◌, List, [], ◌++◌, ◌≡◌, length, get_or, take}
 use Rattle.std.proofs.lemmas.List.Edits.{sets}
-use Rattle.limits.specs.Limits.{line_limit}
 use Rattle.operation.specs.Names.{bytes}
 use Rattle.definitions.specs.Operations.{words_op}
 use Rattle.definitions.specs.Answer.{Answer}
 use Rattle.definitions.specs.Text.{decimal, op_text, newline, answer_text}
-use Rattle.text.specs.declared.Line.{Line}
 
--- the line of a text: its bytes, zeros after them up to the limit, and its length
-abbrev pub line_of : List ℕ → Line
-line_of xs = record { bytes = xs ++ replicate (line_limit - length xs) 0; len = length xs }
+-- the text of an operation's six words, as a list; and their line
+abbrev pub words_text : List ℕ → List ℕ
+words_text ws =
+    op_text (words_op (get_or ws 0 0) (get_or ws 1 0) (get_or ws 2 0) (get_or ws 3 0) (get_or ws 4 0) (get_or ws 5 0))
 
--- a line with a text written after it
-unfoldable pub added : Line → List ℕ → Line
-added l xs = record { bytes = sets l.bytes l.len xs; len = l.len + length xs }
-
--- the line r is l with xs after it, at most so many bytes
-pub record Adds (l : Line) (xs : List ℕ) (most : ℕ) (r : Line) : Type 0 where
-  pub whole : r ≡ added l xs
-  pub more : r.len ≤ l.len + most
-
--- the text of a line can be lent: what `&bytes[..len]` asks
-pub record Lent (l : Line) : Type 0 where
-  pub inside : l.len ≤ length l.bytes
-  pub counted : l.len ≡ length (take l.len l.bytes)
-
--- the line r has the text xs, which fits
-pub record Prints (r : Line) (xs : List ℕ) : Type 0 where
-  pub whole : r ≡ line_of xs
-  pub within : r.len ≤ line_limit
-  pub lent : Lent r
-
--- the line of an operation's six words
 abbrev pub line_text : (kind code d s1 s2 place : ℕ) → List ℕ
 line_text k c d s1 s2 p = op_text (words_op k c d s1 s2 p) ++ newline
 
@@ -55,18 +33,6 @@ line_at ws i = line_from ws (6 * i)
 unfoldable pub lines_of : List ℕ → (n : ℕ) → List ℕ
 lines_of ws zero = []
 lines_of ws (suc i) = lines_of ws i ++ line_at ws i
-
--- ---- texts
-
--- the text of a line
-abbrev pub text_of : Line → List ℕ
-text_of l = take l.len l.bytes
-
--- xs is written at a place of a text, whose other bytes stay, and r is the place after it, within the text
-pub record Writes (old : List ℕ) (at : ℕ) (xs new : List ℕ) (r : ℕ) : Type 0 where
-  pub whole : new ≡ sets old at xs
-  pub after : r ≡ at + length xs
-  pub inside : r ≤ length new
 
 -- the answer of a number, two counts and the words of the output
 abbrev pub answer_of : (number ops temps : ℕ) (output : List ℕ) → Answer

@@ -1,5 +1,0 @@
--- A turn is left one digit fewer.
-use Rattle.text.proofs.+put_digits.Given as goal
-
-abbrev pub decreases-put_digits : goal.decreases-put_digits
-decreases-put_digits l = l.digits
