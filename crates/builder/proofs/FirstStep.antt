@@ -1,11 +1,11 @@
 -- The first step: what sharing and trimming leave in the rows is the definition's, and so is check 8.
 use mathlib.Core.Path.{◌≡◌, refl, ap, ap₂, sym, ◌∙◌}
-use Prim.Native.Nat.{ℕ, ◌+◌, ◌*◌, ◌≤◌}
+use Prim.Native.Nat.{ℕ, ◌+◌, ◌≤◌}
 use native.Mathlib.Omega.{arith}
 use mathlib.Core.Bool.{Bool, true, false}
 use mathlib.Core.List.{List, []}
 use lib.ListN.{length, replicate, length-replicate}
-use Rattle.limits.specs.Limits.{node_limit, rows_length}
+use Rattle.limits.specs.Limits.{node_limit}
 use Rattle.symbol.specs.declared.Loc.{Loc}
 use Rattle.header.specs.declared.Header.{Header}
 use Rattle.header.specs.Settings.{header_of}
@@ -17,6 +17,7 @@ use Rattle.definitions.specs.Answer.{temporary, texts, eliminated, trimmed, temp
 use Rattle.node.specs.Views.{Fresh, zeros}
 use Rattle.node.proofs.Views.{zeros_unmarked}
 use Rattle.ershov.specs.Number.{Ershovs}
+use Rattle.statement.specs.declared.Row.{Row}
 use Rattle.statement.specs.declared.State.{State}
 use Rattle.statement.specs.Rows.{RoomFor, rows_from, statements_of, sheet_from}
 use Rattle.statement.specs.Rowing.{spent}
@@ -24,16 +25,14 @@ use Rattle.statement.specs.Handover.{Unmarked, SheetEliminated, SheetTrimmed}
 use Rattle.calls.specs.declared.Settings.{Settings}
 use Rattle.reader.specs.Reads.{SheetRead}
 use Rattle.block.specs.Sharing.{Eliminated}
-use Rattle.builder.specs.declared.Step.{Step}
-use Rattle.builder.specs.declared.Step.TheVariants.{Trimmed, Refused}
+use Rattle.std.specs.Prelude.{Result, Ok, Err}
+use Rattle.refusal.specs.declared.Refusal.{Refusal}
+use Rattle.refusal.specs.declared.Refusal.TheVariants.{Call}
 use Rattle.builder.specs.Steps.{Listable, settings_of, trims_rows, RowsTrimTo, TrimsTo}
 
--- an array has room for a third of its words
-pub zeros_room : (k count : ℕ) → 3 * count ≤ k → RoomFor (replicate k 0) count
-zeros_room k count h = rw (length-replicate {0} {A = ℕ} k 0) h
-
-pub zeros_short : (k : ℕ) → k ≤ rows_length → length (replicate {A = ℕ} k 0) ≤ rows_length
-zeros_short k h = rw (length-replicate {0} {A = ℕ} k 0) h
+-- an array has room for as many rows as it has
+pub rows_room : (r : Row) (k count : ℕ) → count ≤ k → RoomFor (replicate k r) count
+rows_room r k count h = rw (length-replicate {0} {A = Row} k r) h
 
 -- an array of zeros marks no node
 pub zeros_unmark : Unmarked (replicate node_limit 0)
@@ -41,7 +40,7 @@ zeros_unmark = record { blank = λ i. zeros_unmarked node_limit i; wide = length
 
 -- ---- from the rows that sharing left
 
-module _ (g : Settings) (ws ms er : List ℕ) (e : State) (handed : SheetEliminated ws ms er g.nodes e) (ms' rs : List ℕ) (s : State)
+module _ (g : Settings) (ws ms : List ℕ) (er : List Row) (e : State) (handed : SheetEliminated ws ms er g.nodes e) (ms' : List ℕ) (rs : List Row) (s : State)
     (put : SheetTrimmed g.sharing g.scratch ws ms ms' er rs g.nodes e s) (es : List ℕ)
     (numbers : Ershovs ws ms' es 0 g.nodes)
     (wide : Bool)
@@ -66,24 +65,24 @@ module _ (g : Settings) (ws ms er : List ℕ) (e : State) (handed : SheetElimina
         too_wide g.scratch (trims_rows g ws ms er e places).statements ≡ wide
     wide_is places f = rw (put.trimmed places f) (sym (by_rows places))
 
-    pub rows_refused : wide ≡ true → RowsTrimTo g ws ms er e ms' es rs (Refused 8)
+    pub rows_refused : wide ≡ true → RowsTrimTo g ws ms er e ms' es rs (Err Call)
     unfolding RowsTrimTo
     rows_refused on = (refl, λ places f. wide_is places f ∙ on)
 
-    pub rows_trimmed : wide ≡ false → RowsTrimTo g ws ms er e ms' es rs (Trimmed s)
+    pub rows_trimmed : wide ≡ false → RowsTrimTo g ws ms er e ms' es rs (Ok s)
     unfolding RowsTrimTo
     rows_trimmed off = (rows_listable, λ places f. (put.trimmed places f, wide_is places f ∙ off))
 
 -- ---- from the sheet's rows
 
 -- a row for each statement, and one for each node, are enough
-pub room_left : {sharing : Bool} {ws rows : List ℕ} {n count : ℕ} {ms er : List ℕ} {e : State} (rs : List ℕ) →
+pub room_left : {sharing : Bool} {ws : List ℕ} {rows : List Row} {n count : ℕ} {ms : List ℕ} {er : List Row} {e : State} (rs : List Row) →
     Eliminated sharing ws rows n count ms er e → RoomFor rs (count + n) →
     RoomFor rs (spent (rows_from er 0 e.count) + zeros ms n)
 room_left rs x room = omega (arith, x.room, room)
 
-module _ (h : Header) (ws rows : List ℕ) (n : ℕ) (ms er : List ℕ) (e : State)
-    (shared : Eliminated h.sharing ws rows n h.count ms er e) (ms' es rs : List ℕ) where
+module _ (h : Header) (ws : List ℕ) (rows : List Row) (n : ℕ) (ms : List ℕ) (er : List Row) (e : State)
+    (shared : Eliminated h.sharing ws rows n h.count ms er e) (ms' es : List ℕ) (rs : List Row) where
   module _ (file : List ℕ) (is : h ≡ header_of file) (q : SheetRead file ws rows n) where
     same_sheet : sheet_from ws rows 0 h.count ≡ q.sheet
     same_sheet = rw is q.stands
@@ -109,16 +108,16 @@ module _ (h : Header) (ws rows : List ℕ) (n : ℕ) (ms er : List ℕ) (e : Sta
         let scratch : h.scratch ≡ scratch_count file = rw is refl in
         ap₂ (λ (c : ℕ) (t : Trimming). too_wide c t.statements) (sym scratch) trimmed_is ∙ k
 
-  pub sheet_trims : (t : Step) → RowsTrimTo (settings_of h n) ws ms er e ms' es rs t → TrimsTo h ws rows n ms' es rs t
+  pub sheet_trims : (t : Result State Refusal) → RowsTrimTo (settings_of h n) ws ms er e ms' es rs t → TrimsTo h ws rows n ms' es rs t
   unfolding TrimsTo RowsTrimTo temporary_count
-  sheet_trims (Trimmed s) x = (
+  sheet_trims (Ok s) x = (
     x.0,
     (λ file is q.
         let done = x.1 (temporary file) q.fresh in
         rw (q.read, wide_was file is q done.1)
         (ap (λ (t : Trimming). got t.statements t.next) (trimmed_is file is q ∙ done.0))),
   )
-  sheet_trims (Refused k) x = λ file is q. rw (q.read, wide_was file is q (x.1 (temporary file) q.fresh), x.0) refl
+  sheet_trims (Err r) x = λ file is q. rw (q.read, wide_was file is q (x.1 (temporary file) q.fresh), x.0) refl
 
 -- what the first step asks for with sharing on, and gives
-pub ruleset shared_step = (zeros_room, zeros_short, room_left, sheet_trims)
+pub ruleset shared_step = (rows_room, room_left, sheet_trims)
