@@ -1,35 +1,36 @@
 // The call for C and Rust: the answer as three numbers.
 #![tactic(auto)]
 
-ghost use Rattle.std.specs.Prelude.{◌≡◌};
-ghost use Rattle.builder.specs.Compiled.{number_of, ops_of, temps_of};
-ghost use Rattle.zubmanger.specs.Call.{Called};
+ghost use Rattle.zubmanger.specs.Call.{Called, HasNumbers};
 
-use builder::Answer;
+use builder::Counts;
+use refusal::Refusal;
 
 // 0 and the counts of operations and temporaries, or a refusal's number and two zeros.
 #[repr(C)]
-#[derive(Clone, Copy)]
+#[derive(Clone, Copy, PartialEq, Eq, Debug)]
 pub struct Numbers {
     pub number: u32,
     pub ops: u32,
     pub temps: u32,
 }
 
-fn as_numbers(a: Answer) -> Numbers
-    ensures { (result.number ≡ number_of a) × (result.ops ≡ ops_of a) × (result.temps ≡ temps_of a) }
-{
-    match a {
-        Answer::Listed(n, t) => Numbers {
-            number: 0,
-            ops: n,
-            temps: t,
-        },
-        Answer::Refused(k) => Numbers {
-            number: k as u32,
-            ops: 0,
-            temps: 0,
-        },
+impl From<Result<Counts, Refusal>> for Numbers {
+    ghost from_gives = { λ r n. HasNumbers r n };
+
+    fn from(answer: Result<Counts, Refusal>) -> Numbers {
+        match answer {
+            Ok(Counts { ops, temps }) => Numbers {
+                number: 0,
+                ops,
+                temps,
+            },
+            Err(refusal) => Numbers {
+                number: u32::from(refusal),
+                ops: 0,
+                temps: 0,
+            },
+        }
     }
 }
 
@@ -37,6 +38,5 @@ fn as_numbers(a: Answer) -> Numbers
 pub extern "C" fn zubmanger_compile(file: &[u8], work: &mut [u32], out: &mut [u32]) -> Numbers
     ensures { Called file.now work.old work.new out.old out.new result }
 {
-    let a = builder::compile_mir(file, work, out);
-    as_numbers(a)
+    Numbers::from(builder::compile_mir(file, work, out))
 }
