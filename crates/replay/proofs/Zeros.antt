@@ -1,13 +1,10 @@
 -- Equal words, and words that are all zero. Assumes nothing.
-use Prim.Native.Nat.{ℕ, zero, suc, ◌+◌, ◌-◌, ◌*◌, ◌<◌, ◌≤◌}
-use native.Mathlib.Numerals.{add-one}
-use mathlib.Core.Bool.{true, false, ◌&&◌}
+use Prim.Native.Nat.{ℕ, zero, suc, ◌-◌, ◌*◌, ◌≤◌}
+use mathlib.Core.Bool.{true}
 use mathlib.Core.List.{List, ◌++◌}
 use mathlib.Core.Path.{◌≡◌, refl, sym, ap, subst, ◌∙◌}
-use lib.Dec.{eqb}
-use lib.ListN.{length, get_or, take, drop, replicate, length-replicate, drop_of_length-le}
-use lib.Seq.{drop-cons, drop_at, length-take-le}
-use borrow.Author.Tests.{ne_eqb, eq-eqb}
+use lib.ListN.{length, take, drop, replicate, length-replicate}
+use lib.Seq.{drop_at, length-take-le}
 use Rattle.definitions.specs.Operations.{Op, list_words}
 use Rattle.definitions.specs.Answer.{Answer, refusal, acceptance, answer}
 use Rattle.definitions.proofs.Words.{list_words_length}
@@ -22,33 +19,13 @@ equal_words n v = sym (length-replicate n v)
 pub equal_part : (n v k : ℕ) → k ≤ n → k ≡ length (take k (replicate n v))
 equal_part n v k h = sym (length-take-le k (replicate n v) (subst (λ (m : ℕ). k ≤ m) (equal_words n v) h))
 
--- ---- word by word
-
-module _ (ws : List ℕ) (i : ℕ) where
-  pub zero_end : length ws ≤ i → all_zero (drop i ws) ≡ true
-  unfolding all_zero
-  zero_end h = rw (drop_of_length-le ws h)
-
-  module _ (inside : i < length ws) where
-    zero_from : all_zero (drop i ws) ≡ (eqb (get_or ws i 0) 0 && all_zero (drop (suc i) ws))
-    unfolding all_zero
-    zero_from = rw (drop-cons ws i 0 inside)
-
-    pub zero_not : (get_or ws i 0 ≡ 0 → ⊥) → all_zero (drop i ws) ≡ false
-    zero_not n = zero_from ∙ rw (ne_eqb _ _ n)
-
-    pub zero_next : get_or ws i 0 ≡ 0 → all_zero (drop i ws) ≡ all_zero (drop (i + 1) ws)
-    zero_next e = zero_from ∙ rw (eq-eqb _ _ e, add-one)
-
 -- ---- what a call leaves
 
 pub zeros : (n : ℕ) → all_zero (replicate n 0) ≡ true
-unfolding all_zero
 zeros zero = refl
 zeros (suc n) = zeros n
 
 zeros_from : (k n : ℕ) → all_zero (drop k (replicate n 0)) ≡ true
-unfolding all_zero
 zeros_from zero n = zeros n
 zeros_from (suc k) zero = refl
 zeros_from (suc k) (suc n) = zeros_from k n

@@ -1,77 +1,76 @@
 -- A recorded vector, and whether it holds (model/README.md has the format).
-use Rattle.std.specs.Prelude.{ℕ, zero, suc, ◌+◌, ◌*◌, Bool, true, false, cond, ◌&&◌, List, [], ◌∷◌, eqb, leb, ltb, length, drop}
+use Rattle.std.specs.Prelude.{ℕ, zero, suc, ◌+◌, ◌*◌, Bool, false, cond, ◌&&◌, List, leb, ltb, length, drop, nat_eq}
+use Rattle.std.specs.List.{list_all}
 use Rattle.limits.specs.Limits.{work_words, file_limit}
 use Rattle.operation.specs.Names.{bytes}
 use Rattle.definitions.specs.Answer.{Answer, answer}
 use Rattle.definitions.specs.Text.{answer_text}
-use Rattle.builder.specs.declared.Answer as Built
-use Rattle.builder.specs.Compiled.{number_of, ops_of, temps_of}
+use Rattle.builder.specs.Compiled.{Answered, number_of, ops_of, temps_of}
 use Rattle.text.specs.Line.{answer_of}
-use Rattle.vectors.specs.Vectors.{stands_at, place_after, end_line, bytes_of, number_from, digits_from, comments_length, end_length}
+use Rattle.vectors.specs.Vectors.{begins, after, end_line, bytes_of, number_from, digits_from, comments_length, end_length}
 
 -- words that are all zero
-unfoldable pub all_zero : List ℕ → Bool
-all_zero [] = true
-all_zero (w ∷ ws) = eqb w 0 && all_zero ws
+abbrev pub all_zero : List ℕ → Bool
+all_zero ws = list_all (λ w. nat_eq w 0) ws
 
 -- the answer of what a call gives, and the words of the output
-abbrev pub given_answer : Built.Answer → (output : List ℕ) → Answer
+abbrev pub given_answer : Answered → (output : List ℕ) → Answer
 given_answer r out = answer_of (number_of r) (ops_of r) (temps_of r) out
 
--- the text of an answer stands at a place, and the line `end` after it
-unfoldable pub recorded : (all : List ℕ) (at : ℕ) → Answer → Bool
-recorded all at a = stands_at all (place_after all at (answer_text a)) end_line
+-- a text begins with that of an answer, and the line `end` after it
+unfoldable pub recorded : (text : List ℕ) → Answer → Bool
+recorded text a = begins end_line (after (answer_text a) text)
 
 -- and past its list the words of its output are zero
-unfoldable pub recorded_zero : (all : List ℕ) (at : ℕ) → Answer → Bool
-recorded_zero all at a = recorded all at a && all_zero (drop (6 * a.ops) a.output)
+unfoldable pub recorded_zero : (text : List ℕ) → Answer → Bool
+recorded_zero text a = recorded text a && all_zero (drop (6 * a.ops) a.output)
 
--- the answer to a file with so many words lent is recorded at a place, and the words are no more than there are
-unfoldable pub lent_holds : (all : List ℕ) (at : ℕ) (file : List ℕ) (work room : ℕ) → Bool
-lent_holds all at file work room = leb work work_words && (leb room work_words && recorded all at (answer file work room))
+-- a text begins with the answer to a file with so many words lent, and the words are no more than there are
+unfoldable pub lent_holds : (text file : List ℕ) (work room : ℕ) → Bool
+lent_holds text file work room = leb work work_words && (leb room work_words && recorded text (answer file work room))
 
--- the number that stands at a place, and the place after it
-abbrev pub number_at : (all : List ℕ) (at : ℕ) → ℕ
-number_at all at = number_from 0 (drop at all)
+-- the number that a text begins with, and what is left after it
+abbrev pub number_of_text : List ℕ → ℕ
+number_of_text text = number_from 0 text
 
-abbrev pub after_number : (all : List ℕ) (at : ℕ) → ℕ
-after_number all at = at + digits_from 0 (drop at all)
+abbrev pub after_number : List ℕ → List ℕ
+after_number text = drop (digits_from 0 text) text
 
--- so with the words to lend and the text that stand at a place
-unfoldable pub asks_at : (all : List ℕ) (at : ℕ) (file : List ℕ) → Bool
-asks_at all at file =
-    let work = place_after all at (bytes "\nlent ") in
-    let room = place_after all (after_number all work) (bytes " ") in
-    lent_holds all (place_after all (after_number all room) (bytes "\n")) file (number_at all work) (number_at all room)
+-- so with the words to lend and the answer that a text has
+unfoldable pub asks : (text file : List ℕ) → Bool
+asks text file =
+    let work = after (bytes "\nlent ") text in
+    let room = after (bytes " ") (after_number work) in
+    lent_holds (after (bytes "\n") (after_number room)) file (number_of_text work) (number_of_text room)
 
 -- and with a vector's sheet, of which one byte more is read than it may have
-unfoldable pub holds_at : (all : List ℕ) (at : ℕ) → Bool
-holds_at all at =
-    let sheet = place_after all at (bytes "sheet ") in
-    let file = bytes_of (file_limit + 1) (drop sheet all) in
-    asks_at all (sheet + 2 * length file) file
+unfoldable pub holds : (text : List ℕ) → Bool
+holds text =
+    let sheet = after (bytes "sheet ") text in
+    let file = bytes_of (file_limit + 1) sheet in
+    asks (drop (2 * length file) sheet) file
 
--- the first vector from a place on, past its comments, and the next one after a vector
-abbrev pub vector_from : (all : List ℕ) (at : ℕ) → ℕ
-vector_from all at = at + comments_length false (drop at all)
+-- the text from the first vector on, past its comments, and from the next one on
+abbrev pub vectors_of : List ℕ → List ℕ
+vectors_of text = drop (comments_length false text) text
 
-abbrev pub vector_after : (all : List ℕ) (at : ℕ) → ℕ
-vector_after all at = vector_from all (at + end_length false (drop at all))
+abbrev pub next_vector : List ℕ → List ℕ
+next_vector text = vectors_of (drop (end_length false text) text)
 
--- what f counts of each vector from a place on, so many at most
-unfoldable pub sum_from : (f : ℕ → ℕ) (most : ℕ) (all : List ℕ) (at : ℕ) → ℕ
-sum_from f zero all at = 0
-sum_from f (suc n) all at = cond (ltb at (length all)) (f at + sum_from f n all (vector_after all at)) 0
+-- what f counts of each vector, so many at most
+unfoldable pub sum_from : (f : List ℕ → ℕ) (most : ℕ) (text : List ℕ) → ℕ
+sum_from f zero text = 0
+sum_from f (suc n) text = cond (ltb 0 (length text)) (f text + sum_from f n (next_vector text)) 0
 
 -- how many vectors there are, never more than bytes, and how many do not hold
-abbrev pub one : (at : ℕ) → ℕ
-one at = 1
+abbrev pub one : List ℕ → ℕ
+one text = 1
 
-abbrev pub wrong_at : (all : List ℕ) (at : ℕ) → ℕ
-wrong_at all at = cond (holds_at all at) 0 1
+abbrev pub wrong : List ℕ → ℕ
+wrong text = cond (holds text) 0 1
 
-unfoldable pub vector_count : (all : List ℕ) → ℕ
-vector_count all = sum_from one (length all) all (vector_from all 0)
+unfoldable pub vector_count : List ℕ → ℕ
+vector_count all = sum_from one (length all) (vectors_of all)
 
-unfoldable pub wrong_count : (all : List ℕ) → ℕ
-wrong_count all = sum_from (wrong_at all) (length all) all (vector_from all 0)
+unfoldable pub wrong_count : List ℕ → ℕ
+wrong_count all = sum_from wrong (length all) (vectors_of all)

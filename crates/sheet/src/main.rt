@@ -7,7 +7,7 @@ ghost use Rattle.limits.specs.Limits.{work_words, text_limit};
 ghost use Rattle.definitions.specs.Answer.{answer};
 ghost use Rattle.definitions.specs.Text.{answer_text};
 
-use builder::Answer;
+use builder::Counts;
 use limits::{BYTES, TEXT, WORK};
 
 // Writes the text of the answer to a file at the start of a text, and answers its length.
@@ -19,14 +19,14 @@ fn answered(file: &[u8], text: &mut [u8]) -> usize
 {
     let mut work = [0u32; WORK];
     let mut out = [0u32; WORK];
-    let a = builder::compile_mir(file, &mut work, &mut out);
-    match a {
-        Answer::Listed(n, t) => text::answer_text(0, n, t, &out, text),
-        Answer::Refused(k) => text::answer_text(k as u32, 0, 0, &out, text),
+    match builder::compile_mir(file, &mut work, &mut out) {
+        Ok(Counts { ops, temps }) => text::answer_text(0, ops, temps, &out, text),
+        Err(refusal) => text::answer_text(u32::from(refusal), 0, 0, &out, text),
     }
 }
 
 // One byte more is read than a sheet may have, so that a longer one is seen.
+// It reads and writes by the kit's io, for std's would assume C's errno beside C's read and write.
 fn main() {
     let mut file = [0u8; BYTES + 1];
     let mut text = [0u8; TEXT];

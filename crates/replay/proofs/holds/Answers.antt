@@ -9,6 +9,5 @@ use Rattle.replay.proofs.holds.Goals as goal
 pub returns : goal.returns
 unfolding bytes
 returns c =
-    let read = c.read_bytes-sheet.ensures in
-    holds_asks c.args.all.now c.args.at (replicate (file_limit + 1) 0) (sym (equal_words (file_limit + 1) 0))
-    c.past.ensures.0 read.n_value.0 read.n_value.1 read.n_value.2 read.n_in_bounds.0 c.asked.ensures
+    holds_asks c.args.text.text.now (replicate (file_limit + 1) 0) (sym (equal_words (file_limit + 1) 0)) c.skip.ensures
+    c.read_bytes-n.ensures.read c.read_bytes-n.ensures.within.0 c.asked.ensures
