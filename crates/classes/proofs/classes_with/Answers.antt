@@ -6,20 +6,20 @@ use Rattle.classes.proofs.classes_with.Goals as goal
 
 pub ershov_of-requires : goal.ershov_of-requires
 ershov_of-requires g c =
-    sides_low c.loop-i.invariant.0 (omega arith) c.loop-i.invariant.1.fitted.table c.unpack-x.ensures
+    sides_low c.loop-i.invariant.0 (omega arith) c.args.nodes.now.table c.get-x.ensures
 
 pub mix_of-mix-requires : goal.mix_of-mix-requires
-mix_of-mix-requires g c = sides_inside (omega arith) c.loop-i.auto.i c.loop-i.invariant.1 c.unpack-x.ensures
+mix_of-mix-requires g c = sides_inside (omega arith) c.loop-i.auto.i c.loop-i.invariant.1 c.get-x.ensures
 
-pub invariant_of-next : goal.invariant_of-next
-invariant_of-next g c =
-    record { next = next_ready (omega arith) c.loop-i.auto.i c.loop-i.invariant.1 c.unpack-x.ensures c.mix_of-mix.ensures }
+pub invariant_of-next-clause-next : goal.invariant_of-next-clause-next
+invariant_of-next-clause-next g c =
+    next_ready (omega arith) c.loop-i.auto.i c.loop-i.invariant.1 c.get-x.ensures c.mix_of-mix.ensures
 
 pub loop-i-preserved : goal.loop-i-preserved
 loop-i-preserved g c =
     let filled = c.loop-i.invariant.0 in
     let old = c.loop-i.invariant.1 in (
-      number_more filled (omega arith) old.fitted.table c.unpack-x.ensures c.ershov_of.ensures,
-      classed_next (omega arith) c.loop-i.auto.i old c.unpack-x.ensures c.mix_of-mix.ensures c.find-class.ensures.class
+      number_more filled (omega arith) c.args.nodes.now.table c.get-x.ensures c.ershov_of.ensures,
+      classed_next (omega arith) c.loop-i.auto.i old c.get-x.ensures c.mix_of-mix.ensures c.find-class.ensures.class
           c.find-class.ensures.linked,
     )

@@ -4,4 +4,6 @@ use Rattle.classes.proofs.NextClass.{ClassedFrom}
 use Rattle.classes.proofs.classes_with.Given as goal
 
 abbrev pub invariant-loop-i : goal.invariant-loop-i
-invariant-loop-i g l = FilledFrom l.ws l.es l.i l.n × ClassedFrom l.ws l.cs l.mx l.links l.i l.n
+invariant-loop-i g l =
+    FilledFrom l.nodes.words.now l.es l.i l.nodes.count
+    × ClassedFrom l.nodes.words.now l.cs l.mx l.links l.i l.nodes.count
