@@ -20,7 +20,8 @@ returns-in-Const c =
     ]
 
 -- over one side
-one_side : (c : In-Unary) → OneHead c.args.self.now.nodes.words.now c.args.self.now.cs.now c.args.self.now.i c.args.j (Unary c.in-Unary.field-0)
+one_side : (c : In-Unary) →
+    OneHead c.args.self.now.nodes.words.now c.args.self.now.cs.now c.args.self.now.i c.args.j (Unary c.in-Unary.field-0)
 one_side c =
     one_head c.args.self.now.next.nodes c.requires c.same_heads.ensures c.if-not-same_heads.false c.get.ensures c.in-Unary.is
 
