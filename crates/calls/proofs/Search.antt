@@ -15,7 +15,7 @@ use Rattle.definitions.specs.Tree.{Tree}
 use Rattle.definitions.specs.Same.{same}
 use Rattle.definitions.specs.Statement.{Statement, assign, call, call_tree}
 use Rattle.definitions.specs.Trim.{first_of, seek}
-use Rattle.node.specs.Nodes.{end_at}
+use Rattle.node.specs.Nodes.{end_at, Table}
 use Rattle.node.specs.Views.{seen, Fresh}
 use Rattle.node.proofs.Nodes.{equal_or}
 use Rattle.statement.specs.declared.Row.{Row}
@@ -205,11 +205,9 @@ search_starts {ws} {ms} rs {i} count r s =
 
 -- ---- a call at a node of a table
 
-module _ {sharing : Bool} {ws : List ℕ} {n i : ℕ} {p : Progress} (ready : CallReady sharing ws n i p) where
+module _ {sharing : Bool} {ws : List ℕ} {n i : ℕ} {p : Progress} (t : Table ws n) (ready : CallReady sharing ws n i p) where
   table_comparable : (b : ℕ) → b < n → Comparable ws b
-  table_comparable b h =
-      let t = ready.table in
-      record { laid = t.laid b h; ends = omega (arith, t.whole b h, t.few) }
+  table_comparable b h = record { laid = t.laid b h; ends = omega (arith, t.whole b h, t.few) }
 
   pub ready_comparable : Comparable ws i
   ready_comparable = table_comparable i ready.within
@@ -225,7 +223,7 @@ module _ {sharing : Bool} {ws : List ℕ} {n i : ℕ} {p : Progress} (ready : Ca
 
   ready_fresh : {temporary : ℕ → Loc} → Fresh temporary ws n → CallFresh temporary ws i (rows_of p)
   ready_fresh f =
-      let whole = ready.table.whole in
+      let whole = t.whole in
       record {
         nodes = n;
         fresh = f;

@@ -5,7 +5,7 @@ use Rattle.std.proofs.Math.Option as maybe
 use Rattle.limits.specs.Limits.{row_limit, temporary_limit}
 use Rattle.symbol.specs.declared.Loc.{Loc}
 use Rattle.definitions.specs.Trim.{seek}
-use Rattle.node.specs.Nodes.{node_at, end_at, is_function, Table}
+use Rattle.node.specs.Nodes.{node_at, end_at, is_function}
 use Rattle.node.specs.Views.{seen, Fresh}
 use Rattle.statement.specs.declared.Row.{Row}
 use Rattle.statement.specs.declared.Row.TheVariants.{Made}
@@ -52,9 +52,8 @@ pub record RowAsked (ws ms : List ℕ) (rows : List Row) (i key k : ℕ) : Type 
   pub sought : CallSought ws i (row_at rows k ∷ [])
   pub apart : key_at rows k ≢ key → CallFound ws ms i (row_at rows k ∷ []) None
 
--- a call at node i of a table may be broken out
+-- a call at node i of a table of n nodes may be broken out
 pub record CallReady (sharing : Bool) (ws : List ℕ) (n i : ℕ) (p : Progress) : Type 0 where
-  pub table : Table ws n
   pub within : i < n
   pub called : is_function (node_at ws i) ≡ true
   pub few : p.state.count < row_limit

@@ -34,9 +34,9 @@ pub record RowReady (p : Progress) : Type 0 where
   pub room : RoomFor p.rows (p.state.count + 1)
   pub few : p.state.count < row_limit
 
--- a trimmer goes by the same words and settings as before, and writes to the same arrays
+-- a trimmer goes by the same nodes and settings as before, and writes to the same arrays
 pub record SameTrimmer (old new : Trimmer) : Type 0 where
-  pub words : new.words ≡ old.words
+  pub nodes : new.nodes ≡ old.nodes
   pub settings : new.settings ≡ old.settings
   pub marks : new.marks.ghost_name ≡ old.marks.ghost_name
   pub rows : new.rows.ghost_name ≡ old.rows.ghost_name

@@ -10,12 +10,12 @@ ghost use Rattle.calls.specs.Calls.{CallSought, CallFound, RowAsked, CallReady, 
 
 use compare::Trees;
 use limits::{NODES, PerNode};
+use node::NodeTable;
 use statement::{Row, State};
 
-// What trimming goes by: the number of the sheet's nodes, its scratch count, and whether earlier calls are sought.
+// What trimming goes by: the sheet's scratch count, and whether earlier calls are sought.
 #[derive(Clone, Copy)]
 pub struct Settings {
-    pub nodes: u32,
     pub scratch: u32,
     pub sharing: bool,
 }
@@ -24,7 +24,7 @@ pub struct Settings {
 // Marks and heads stay numbers: 1,024 options take twice as long to clear, on each call.
 #[derive(Drop)]
 pub struct Trimmer<'a> {
-    pub words: &'a [u32],
+    pub nodes: NodeTable<'a>,
     pub settings: Settings,
     pub marks: &'a mut PerNode,
     pub rows: &'a mut [Row],
@@ -48,19 +48,19 @@ fn key_of(m: u64) -> u32
 impl Trimmer<'_> {
     // The trees as the marks show them so far.
     fn trees(&self) -> Trees<'_>
-        ensures words { result.words.now ≡ self.now.words.now }
+        ensures words { result.words.now ≡ self.now.nodes.words.now }
         ensures marks { result.marks.now ≡ self.now.marks.now }
     {
         Trees {
-            words: self.words,
+            words: self.nodes.words,
             marks: self.marks,
         }
     }
 
     // The temporary of row k, if it makes the same call as node i. Trees are compared only where the keys agree.
     fn hits(&self, i: u32, key: u32, k: u32) -> Option<u32>
-        requires { RowAsked self.now.words.now self.now.marks.now self.now.rows.now i key k }
-        ensures { CallFound self.now.words.now self.now.marks.now i (row_at self.now.rows.now k ∷ []) result }
+        requires { RowAsked self.now.nodes.words.now self.now.marks.now self.now.rows.now i key k }
+        ensures { CallFound self.now.nodes.words.now self.now.marks.now i (row_at self.now.rows.now k ∷ []) result }
     {
         match self.rows[k as usize] {
             Row::Made {
@@ -81,10 +81,10 @@ impl Trimmer<'_> {
     // The temporary of the first row that makes the same call as node i: by the links of its chain, from its last row.
     #[tactic(auto, using(crate::proofs::Search::along_chain))]
     fn seek(&self, i: u32, last: u32, key: u32) -> Option<u32>
-        requires ready { SeekReady self.now.words.now self.now.marks.now self.now.rows.now i last key self.now.state.count }
-        requires sought { CallSought self.now.words.now i (rows_from self.now.rows.now 0 self.now.state.count) }
+        requires ready { SeekReady self.now.nodes.words.now self.now.marks.now self.now.rows.now i last key self.now.state.count }
+        requires sought { CallSought self.now.nodes.words.now i (rows_from self.now.rows.now 0 self.now.state.count) }
         requires room { RoomFor self.now.rows.now self.now.state.count }
-        ensures { CallFound self.now.words.now self.now.marks.now i
+        ensures { CallFound self.now.nodes.words.now self.now.marks.now i
             (rows_from self.now.rows.now 0 self.now.state.count) result }
     {
         let mut found = None;
@@ -129,9 +129,9 @@ impl Trimmer<'_> {
     // The temporary of the call at node i, whose arguments are trimmed: with sharing on an earlier call's; where there is none, a new one.
     #[tactic(auto, using(crate::proofs::Search::ready_comparable, crate::proofs::Search::chain_low))]
     pub fn break_call(&mut self, i: u32) -> u32
-        requires { CallReady self.old.settings.sharing self.old.words.now self.old.settings.nodes i (progress_of self.old) }
+        requires { CallReady self.old.settings.sharing self.old.nodes.words.now self.old.nodes.count i (progress_of self.old) }
         ensures same { SameTrimmer self.old self.new }
-        ensures broken { CallBroken self.old.settings.sharing self.old.words.now self.old.settings.nodes i
+        ensures broken { CallBroken self.old.settings.sharing self.old.nodes.words.now self.old.nodes.count i
             (progress_of self.old) (progress_of self.new) result }
     {
         if !self.settings.sharing {

@@ -1,4 +1,4 @@
--- A trimmer handed on goes by the same words and settings. Assumes nothing.
+-- A trimmer handed on goes by the same nodes and settings. Assumes nothing.
 use mathlib.Core.Path.{◌∙◌}
 use Prim.Native.Nat.{ℕ}
 use Rattle.statement.specs.declared.Row.{Row}
@@ -12,7 +12,7 @@ use Rattle.trim.specs.Sheet.{RowTrimmed}
 pub same_twice : {a b c : Trimmer} → SameTrimmer a b → SameTrimmer b c → SameTrimmer a c
 same_twice f g =
     record {
-      words = g.words ∙ f.words;
+      nodes = g.nodes ∙ f.nodes;
       settings = g.settings ∙ f.settings;
       marks = g.marks ∙ f.marks;
       rows = g.rows ∙ f.rows;
@@ -21,15 +21,15 @@ same_twice f g =
 
 module _ {old new : Trimmer} (same : SameTrimmer old new) where
   pub view_back : {i : ℕ} {p p' : Progress} {a : Answer} →
-      ViewTrimmed new.settings new.words.now new.settings.nodes i p p' a →
-      ViewTrimmed old.settings old.words.now old.settings.nodes i p p' a
-  view_back x = rw (same.words, same.settings) at x
+      ViewTrimmed new.settings new.nodes.words.now new.nodes.count i p p' a →
+      ViewTrimmed old.settings old.nodes.words.now old.nodes.count i p p' a
+  view_back x = rw (same.nodes, same.settings) at x
 
   pub broken_back : {i k : ℕ} {p p' : Progress} →
-      CallBroken new.settings.sharing new.words.now new.settings.nodes i p p' k →
-      CallBroken old.settings.sharing old.words.now old.settings.nodes i p p' k
-  broken_back x = rw (same.words, same.settings) at x
+      CallBroken new.settings.sharing new.nodes.words.now new.nodes.count i p p' k →
+      CallBroken old.settings.sharing old.nodes.words.now old.nodes.count i p p' k
+  broken_back x = rw (same.nodes, same.settings) at x
 
-  pub row_back : {p p' : Progress} {row : Row} → RowTrimmed new.settings new.words.now new.settings.nodes p p' row →
-      RowTrimmed old.settings old.words.now old.settings.nodes p p' row
-  row_back x = rw (same.words, same.settings) at x
+  pub row_back : {p p' : Progress} {row : Row} → RowTrimmed new.settings new.nodes.words.now new.nodes.count p p' row →
+      RowTrimmed old.settings old.nodes.words.now old.nodes.count p p' row
+  row_back x = rw (same.nodes, same.settings) at x

@@ -18,7 +18,7 @@ use Rattle.definitions.specs.Trim.{Storing, nothing, right, both, storing}
 use Rattle.definitions.proofs.Evaluation.{ershov_positive, join_covers}
 use Rattle.definitions.proofs.TrimFits.{storing_tells, join_fits}
 use Rattle.node.specs.declared.Node.TheVariants.{Binary as BinaryNode}
-use Rattle.node.specs.Nodes.{node_at}
+use Rattle.node.specs.Nodes.{node_at, Table}
 use Rattle.node.specs.Views.{masked, seen, view, Outside}
 use Rattle.node.proofs.Nodes.{equal_or}
 use Rattle.statement.specs.declared.Row.{Row}
@@ -41,7 +41,8 @@ unmarked_wide : (m : ℕ) (t : Tree) → 2 ≤ ershov (masked (λ k. Stack k) m 
 unfolding ershov
 unmarked_wide m t h = equal_or m 0 (λ e. e) (λ e. absurd (omega (arith, rw (ne_eqb m 0 e) at h)))
 
-module _ {h : Settings} {ws : List ℕ} {n i r : ℕ} {p p1 p2 : Progress} {o : Two} {a b : Answer} (ready : TrimReady h ws n (i + 1) i p)
+module _ {h : Settings} {ws : List ℕ} {n i r : ℕ} {p p1 p2 : Progress} {o : Two} {a b : Answer} (t : Table ws n)
+    (ready : TrimReady h ws n (i + 1) i p)
     (e : node_at ws i ≡ BinaryNode o r) (x : ViewTrimmed h ws n (i + 1) p p1 a) (y : ViewTrimmed h ws n r p1 p2 b) where
   abbrev rows : List Row
   rows = x.tree.rows ++ y.tree.rows
@@ -50,13 +51,13 @@ module _ {h : Settings} {ws : List ℕ} {n i r : ℕ} {p p1 p2 : Progress} {o : 
   next = p2.state.next
 
   two_sides : TwoSided ws n i r
-  two_sides = sides ready e
+  two_sides = sides t ready e
 
   pub trimmed_below : Below h ws n i p p2 rows
   trimmed_below =
       let order = two_sides.order in
       record {
-        so = gathered_two ready e x y;
+        so = gathered_two t ready e x y;
         under =
             all_append _ x.tree.rows y.tree.rows
             (roots_map (InTree ws n (i + 1)) _ (λ k t. omega (arith, t.0)) x.tree.rows x.tree.so.inside)
@@ -65,7 +66,7 @@ module _ {h : Settings} {ws : List ℕ} {n i r : ℕ} {p p1 p2 : Progress} {o : 
 
   left_unmarked : 2 ≤ a.ershov → get_or p2.marks (i + 1) 0 ≡ 0
   left_unmarked w =
-      unmarked_wide _ (seen (λ k. Stack k) ws p2.marks (i + 1)) (omega (arith, number_left ready e x y (λ k. Stack k)))
+      unmarked_wide _ (seen (λ k. Stack k) ws p2.marks (i + 1)) (omega (arith, number_left t ready e x y (λ k. Stack k)))
 
   right_unmarked : 2 ≤ b.ershov → get_or p2.marks r 0 ≡ 0
   right_unmarked w = unmarked_wide _ (seen (λ k. Stack k) ws p2.marks r) (omega (arith, y.tree.number (λ k. Stack k)))
@@ -84,9 +85,9 @@ module _ {h : Settings} {ws : List ℕ} {n i r : ℕ} {p p1 p2 : Progress} {o : 
       (join a.ershov b.ershov) 0
   nothing_stored plain chosen =
       let rest = storing_tells h.scratch o a.ershov b.ershov nothing chosen in
-      two_left ready e x y nothing _ plain chosen (gathered_two ready e x y) (λ temporary. refl) (λ temporary. refl)
-      (λ temporary. result_same refl (both_read ready e x y temporary) refl)
-      (λ temporary. ap₂ join (number_left ready e x y temporary) (y.tree.number temporary))
+      two_left t ready e x y nothing _ plain chosen (gathered_two t ready e x y) (λ temporary. refl) (λ temporary. refl)
+      (λ temporary. result_same refl (both_read t ready e x y temporary) refl)
+      (λ temporary. ap₂ join (number_left t ready e x y temporary) (y.tree.number temporary))
       (join_fits h.scratch a.ershov b.ershov x.tree.few y.tree.few rest)
 
   -- ---- the right one is stored
@@ -96,7 +97,7 @@ module _ {h : Settings} {ws : List ℕ} {n i r : ℕ} {p p1 p2 : Progress} {o : 
     modulus_wide =
         let temporary : ℕ → Loc = λ k. Stack k in (
           storing_tells h.scratch o a.ershov b.ershov right chosen,
-          omega (arith, number_left ready e x y temporary, ershov_positive (view temporary ws p2.marks (i + 1))),
+          omega (arith, number_left t ready e x y temporary, ershov_positive (view temporary ws p2.marks (i + 1))),
         )
 
     right_stored : is_function2 o ≡ false → TreeTrimmed h ws n (i + 1) i p (kept r p2) (λ temporary. seen temporary ws p.marks i)
@@ -104,14 +105,14 @@ module _ {h : Settings} {ws : List ℕ} {n i r : ℕ} {p p1 p2 : Progress} {o : 
     unfolding ershov
     right_stored plain =
         let blank = right_unmarked (omega (arith, modulus_wide)) in
-        let modulus = side_stored ready trimmed_below (right_at two_sides) blank in
-        two_left ready e x y right _ plain chosen modulus.below.so
+        let modulus = side_stored t ready trimmed_below (right_at two_sides) blank in
+        two_left t ready e x y right _ plain chosen modulus.below.so
         (λ temporary. modulus.other temporary (i + 1) two_sides.left right_apart) modulus.own
         (λ temporary.
         let store = assign (temporary next) (view temporary ws p2.marks r) ∷ [] in
         result_same (omega arith)
-        (ap (λ (l : List Statement). l ++ store) (both_read ready e x y temporary) ∙ sym (modulus.read temporary)) refl)
-        (λ temporary. ap (λ (k : ℕ). join k 1) (number_left ready e x y temporary))
+        (ap (λ (l : List Statement). l ++ store) (both_read t ready e x y temporary) ∙ sym (modulus.read temporary)) refl)
+        (λ temporary. ap (λ (k : ℕ). join k 1) (number_left t ready e x y temporary))
         (omega (arith, modulus_wide, join_covers a.ershov 1, y.tree.few))
 
   -- ---- both are stored
@@ -123,13 +124,13 @@ module _ {h : Settings} {ws : List ℕ} {n i r : ℕ} {p p1 p2 : Progress} {o : 
         (omega (arith, ready.scratch.0), omega (arith, ready.scratch.0))
 
     left_stored : Stored h ws n i (i + 1) p p2 rows
-    left_stored = side_stored ready trimmed_below (left_at two_sides) (left_unmarked both_wide.0)
+    left_stored = side_stored t ready trimmed_below (left_at two_sides) (left_unmarked both_wide.0)
 
     pub both_room : RoomFor p2.rows (p2.state.count + 2) × (next + 2 ≤ temporary_limit)
     both_room =
-        let room = room_kept ready left_stored.below in
+        let room = room_kept t ready left_stored.below in
         let same = put_length p2.rows p2.state.count (Kept next (i + 1)) in
-        (omega arith, omega (arith, name_kept ready left_stored.below))
+        (omega arith, omega (arith, name_kept t ready left_stored.below))
 
     both_stored : is_function2 o ≡ false →
         TreeTrimmed h ws n (i + 1) i p (kept r (kept (i + 1) p2)) (λ temporary. seen temporary ws p.marks i)
@@ -138,9 +139,9 @@ module _ {h : Settings} {ws : List ℕ} {n i r : ℕ} {p p1 p2 : Progress} {o : 
     both_stored plain =
         let first = left_stored in
         let blank = first.marks r (λ q. omega (arith, two_sides.order)) ∙ right_unmarked both_wide.1 in
-        let second = side_stored ready first.below (right_at two_sides) blank in
+        let second = side_stored t ready first.below (right_at two_sides) blank in
         let one_more : suc next ≡ next + 1 = omega arith in
-        two_left ready e x y both 2 plain chosen second.below.so
+        two_left t ready e x y both 2 plain chosen second.below.so
         (λ temporary. second.other temporary (i + 1) two_sides.left right_apart ∙ first.own temporary) second.own
         (λ temporary.
         let now = view temporary ws p2.marks in
@@ -151,7 +152,7 @@ module _ {h : Settings} {ws : List ℕ} {n i r : ℕ} {p p1 p2 : Progress} {o : 
         (first.other temporary r two_sides.right left_apart)
         ∙ append_assoc (statements_of temporary ws p2.marks rows) (store next (now (i + 1))) (store (next + 1) (now r)) in
         rw one_more
-        (result_same (omega arith) (ap (λ (l : List Statement). l ++ stores) (both_read ready e x y temporary) ∙ sym read) refl))
+        (result_same (omega arith) (ap (λ (l : List Statement). l ++ stores) (both_read t ready e x y temporary) ∙ sym read) refl))
         (λ temporary. refl) ready.scratch.0
 
   -- ---- as it was chosen
@@ -161,8 +162,8 @@ module _ {h : Settings} {ws : List ℕ} {n i r : ℕ} {p p1 p2 : Progress} {o : 
       let spared = spare how chosen in
       record {
         order = two_sides.order;
-        within = omega (arith, two_sides.right_within, ready.table.few);
-        few = omega (arith, spared.0, (sound_below ready trimmed_below).long);
+        within = omega (arith, two_sides.right_within, t.few);
+        few = omega (arith, spared.0, (sound_below t ready trimmed_below).long);
         room = spared.0;
         names = spared.1;
       }
@@ -170,8 +171,8 @@ module _ {h : Settings} {ws : List ℕ} {n i r : ℕ} {p p1 p2 : Progress} {o : 
       spare : (how : Storing) → how ≡ storing h.scratch o a.ershov b.ershov →
           RoomFor p2.rows (p2.state.count + stores how) × (p2.state.next + stores how ≤ temporary_limit)
       spare both c = both_room (sym c)
-      spare right c = (room_kept ready trimmed_below, omega (arith, name_kept ready trimmed_below))
-      spare nothing c = (omega (arith, room_kept ready trimmed_below), omega (arith, name_kept ready trimmed_below))
+      spare right c = (room_kept t ready trimmed_below, omega (arith, name_kept t ready trimmed_below))
+      spare nothing c = (omega (arith, room_kept t ready trimmed_below), omega (arith, name_kept t ready trimmed_below))
 
   join_by : (how : Storing) → how ≡ storing h.scratch o a.ershov b.ershov → is_function2 o ≡ false →
       NodeTrimmed h ws n i p (stored how (i + 1) r p2) (plain_of (joined how a.ershov b.ershov))

@@ -11,7 +11,7 @@ use Rattle.symbol.specs.declared.Loc.{Loc}
 use Rattle.calls.specs.declared.Settings.{Settings}
 use Rattle.definitions.specs.Tree.{Tree, variable}
 use Rattle.definitions.specs.Statement.{Statement, assign}
-use Rattle.node.specs.Nodes.{end_at, Laid}
+use Rattle.node.specs.Nodes.{end_at, Laid, Table}
 use Rattle.node.specs.Views.{masked, seen, view, Marked, Moves, Outside}
 use Rattle.node.proofs.Nodes.{equal_or, laid_end, nested}
 use Rattle.node.proofs.Views.{seen_frame, view_frame, view_unmarked}
@@ -83,7 +83,8 @@ pub record Stored (h : Settings) (ws : List ℕ) (n i j : ℕ) (p q : Progress) 
   pub other : (temporary : ℕ → Loc) (k : ℕ) → Laid depth_limit ws k → Outside ws k j →
       view temporary ws (kept j q).marks k ≡ view temporary ws q.marks k
 
-module _ {h : Settings} {ws : List ℕ} {n i : ℕ} {p q : Progress} {rows : List Row} (ready : TrimReady h ws n (i + 1) i p)
+module _ {h : Settings} {ws : List ℕ} {n i : ℕ} {p q : Progress} {rows : List Row} (t : Table ws n)
+    (ready : TrimReady h ws n (i + 1) i p)
     (below : Below h ws n i p q rows) where
   pub sound_below : Sound h ws n q
   sound_below = sound_since below.so ready.sound
@@ -103,7 +104,7 @@ module _ {h : Settings} {ws : List ℕ} {n i : ℕ} {p q : Progress} {rows : Lis
     marks' = set q.marks j (next + 1)
 
     here : j < length q.marks
-    here = omega (arith, sound_below.wide, side.within, ready.table.few)
+    here = omega (arith, sound_below.wide, side.within, t.few)
 
     mark_now : get_or marks' j 0 ≡ next + 1
     mark_now = get_or-set_same q.marks j (next + 1) 0 here
@@ -143,7 +144,7 @@ module _ {h : Settings} {ws : List ℕ} {n i : ℕ} {p q : Progress} {rows : Lis
     rows_still temporary =
         roots_both (λ b. i < b) (InTree ws n i) (λ b. seen temporary ws marks' b ≡ seen temporary ws q.marks b)
         (λ b u k.
-        seen_frame temporary ws q.marks marks' b (ready.table.laid b k.1)
+        seen_frame temporary ws q.marks marks' b (t.laid b k.1)
         (λ m l v. mark_other m (λ e. omega (arith, side.border b u (omega arith)))))
         rows below.under below.so.inside
 

@@ -117,7 +117,6 @@ module _ {h : Settings} {ws ms₀ : List ℕ} {er : List Row} {n : ℕ} {s₀ : 
           RoomFor p.rows (p.state.count + zeros p.marks n + 1) → TrimReady h ws n lo i p
       part_ready scratch lo i begins a room =
           record {
-            table = d.table;
             within = a.within;
             scratch = scratch;
             sound = g.sound;

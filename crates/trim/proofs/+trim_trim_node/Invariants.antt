@@ -3,7 +3,7 @@ use Rattle.std.proofs.Common.{◌+◌, ◌-◌, ◌*◌}
 use Rattle.trim.proofs.+trim_trim_node.Given as goal
 
 abbrev pub decreases-trim : goal.decreases-trim
-decreases-trim l = 2 * (l.t.now.settings.nodes - l.i) + 1
+decreases-trim l = 2 * (l.t.now.nodes.count - l.i) + 1
 
 abbrev pub decreases-trim_node : goal.decreases-trim_node
-decreases-trim_node l = 2 * (l.t.now.settings.nodes - l.i)
+decreases-trim_node l = 2 * (l.t.now.nodes.count - l.i)

@@ -13,7 +13,7 @@ trim_row-requires c =
     let handed = c.requires.handed in
     let same = c.loop-row.invariant.0 in
     let l = c.loop-row-test.true in
-    rw (same.words, same.settings)
+    rw (same.nodes, same.settings)
     (row_ready handed c.loop-row.invariant.1 (first_within _ handed.long l) (first_row _ handed.long l) c.requires.scratch)
 
 pub loop-row-preserved : goal.loop-row-preserved

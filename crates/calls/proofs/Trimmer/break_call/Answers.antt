@@ -5,24 +5,24 @@ use Rattle.calls.proofs.Trimmer.break_call.Goals as goal
 
 pub returns-then-not-self-clause-broken : goal.returns-then-not-self-clause-broken
 returns-then-not-self-clause-broken c =
-    broken_off c.requires (search rules) c.new_call.ensures.answer c.new_call.ensures.put
+    broken_off c.args.self.now.nodes.table c.requires (search rules) c.new_call.ensures.answer c.new_call.ensures.put
 
 pub seek-requires-clause-ready : goal.seek-requires-clause-ready
 seek-requires-clause-ready c =
     let mix = rw (c.trees.ensures.words, c.trees.ensures.marks) at c.mix_seen-m.ensures in
-    chain_sought c.requires (search rules) mix c.slot_of-at.ensures c.key_of-key.ensures
+    chain_sought c.args.self.now.nodes.table c.requires (search rules) mix c.slot_of-at.ensures c.key_of-key.ensures
 
 pub seek-requires-clause-sought : goal.seek-requires-clause-sought
-seek-requires-clause-sought c = ready_sought c.requires
+seek-requires-clause-sought c = ready_sought c.args.self.now.nodes.table c.requires
 
 pub returns-in-Some-clause-broken : goal.returns-in-Some-clause-broken
 returns-in-Some-clause-broken c =
     let mix = rw (c.trees.ensures.words, c.trees.ensures.marks) at c.mix_seen-m.ensures in
-    broken_found c.requires (search rules) mix c.slot_of-at.ensures c.in-Some.ensures
+    broken_found c.args.self.now.nodes.table c.requires (search rules) mix c.slot_of-at.ensures c.in-Some.ensures
 
 pub returns-in-None-clause-broken : goal.returns-in-None-clause-broken
 returns-in-None-clause-broken c =
     let mix = rw (c.trees.ensures.words, c.trees.ensures.marks) at c.mix_seen-m.ensures in
-    broken_made c.requires (search rules) mix c.slot_of-at.ensures c.in-None.ensures c.key_of-key.ensures
+    broken_made c.args.self.now.nodes.table c.requires (search rules) mix c.slot_of-at.ensures c.in-None.ensures c.key_of-key.ensures
     c.new_call-in-None.ensures.answer
     c.new_call-in-None.ensures.put
