@@ -62,18 +62,14 @@ impl Trimmer<'_> {
         requires { RowAsked self.now.nodes.words.now self.now.marks.now self.now.rows.now i key k }
         ensures { CallFound self.now.nodes.words.now self.now.marks.now i (row_at self.now.rows.now k ∷ []) result }
     {
-        match self.rows[k as usize] {
+        let row = self.rows[k as usize];
+        match row {
             Row::Made {
                 temporary,
                 root,
                 key: own,
                 ..
-            } => {
-                if own == key && self.trees().same_nodes(root, i) {
-                    return Some(temporary);
-                }
-                None
-            }
+            } if own == key && self.trees().same_nodes(root, i) => Some(temporary),
             _ => None,
         }
     }
