@@ -10,7 +10,8 @@ use Rattle.refusal.specs.declared.Refusal.{Refusal}
 use Rattle.builder.specs.Compiled.{Answered}
 use Rattle.builder.specs.Steps.{Listable, TrimsTo, ListsTo, CompilesTo}
 
-module _ (h : Header) (ws : List ℕ) (rows : List Row) (n : ℕ) (ms es : List ℕ) (rs : List Row) {t : Result State Refusal} (trims : TrimsTo h ws rows n ms es rs t) where
+module _ (h : Header) (ws : List ℕ) (rows : List Row) (n : ℕ) (ms es : List ℕ) (rs : List Row) {t : Result State Refusal}
+    (trims : TrimsTo h ws rows n ms es rs t) where
   module _ {s : State} (is : t ≡ Ok s) where
     step_trims : TrimsTo h ws rows n ms es rs (Ok s)
     step_trims = rw is at trims

@@ -40,7 +40,8 @@ zeros_unmark = record { blank = λ i. zeros_unmarked node_limit i; wide = length
 
 -- ---- from the rows that sharing left
 
-module _ (g : Settings) (ws ms : List ℕ) (er : List Row) (e : State) (handed : SheetEliminated ws ms er g.nodes e) (ms' : List ℕ) (rs : List Row) (s : State)
+module _ (g : Settings) (ws ms : List ℕ) (er : List Row) (e : State) (handed : SheetEliminated ws ms er g.nodes e)
+    (ms' : List ℕ) (rs : List Row) (s : State)
     (put : SheetTrimmed g.sharing g.scratch ws ms ms' er rs g.nodes e s) (es : List ℕ)
     (numbers : Ershovs ws ms' es 0 g.nodes)
     (wide : Bool)
@@ -76,7 +77,8 @@ module _ (g : Settings) (ws ms : List ℕ) (er : List Row) (e : State) (handed :
 -- ---- from the sheet's rows
 
 -- a row for each statement, and one for each node, are enough
-pub room_left : {sharing : Bool} {ws : List ℕ} {rows : List Row} {n count : ℕ} {ms : List ℕ} {er : List Row} {e : State} (rs : List Row) →
+pub room_left : {sharing : Bool} {ws : List ℕ} {rows : List Row} {n count : ℕ} {ms : List ℕ} {er : List Row} {e : State}
+    (rs : List Row) →
     Eliminated sharing ws rows n count ms er e → RoomFor rs (count + n) →
     RoomFor rs (spent (rows_from er 0 e.count) + zeros ms n)
 room_left rs x room = omega (arith, x.room, room)

@@ -1,5 +1,6 @@
 -- Texts written one after another. Assumes nothing.
-use Rattle.std.proofs.Common.{◌≡◌, ℕ, suc, ◌+◌, ◌*◌, ◌^◌, ◌<◌, ◌≤◌, List, [], ◌∷◌, ◌++◌, length, take, drop, append_assoc, refl, sym, ap, ap₂, ◌∙◌, arith}
+use Rattle.std.proofs.Common.{◌≡◌, ℕ, suc, ◌+◌, ◌*◌, ◌^◌, ◌<◌, ◌≤◌, List, []}
+use Rattle.std.proofs.Common.{◌∷◌, ◌++◌, length, take, drop, append_assoc, refl, sym, ap, ap₂, ◌∙◌, arith}
 use Rattle.std.proofs.lemmas.List.{length-append}
 use Rattle.std.specs.Fmt.{decimal as std_decimal}
 use Rattle.std.proofs.lemmas.Fmt.{AppendsLastDigit, decimal_from_appends, length-decimal-le}
@@ -59,7 +60,8 @@ module _ {l : Text} where
   lines_none ws = record { lent = refl; whole = refl; after = omega arith; room = refl; within = omega arith }
 
 -- what is pushed
-put_sets : (bs s ys : List ℕ) (at : ℕ) {k : ℕ} → ys ≡ s → k ≡ length s → at + length s ≤ length bs → put_mid at k bs ys ≡ sets bs at s
+put_sets : (bs s ys : List ℕ) (at : ℕ) {k : ℕ} → ys ≡ s → k ≡ length s → at + length s ≤ length bs
+    → put_mid at k bs ys ≡ sets bs at s
 put_sets bs s ys at e n h =
     rw (e, n, drop-drop (length s) at bs, ← append_assoc (take at bs) s (drop (at + length s) bs)) (sym (sets-eq s bs at h))
 
@@ -81,7 +83,9 @@ appends_digits = record { one = λ k n h. rw (lt-ltb n 10 h); more = λ k n h. r
 
 -- a number's text is std's
 pub decimal_lem : (n : ℕ) → n < 2 ^ 32 → std_decimal n ≡ decimal n
-decimal_lem n h = sym (decimal_from_appends decimal_below appends_digits 10 n (omega arith) (length-decimal-le 10 n (omega arith) (omega arith) (omega arith)))
+decimal_lem n h =
+    let short = length-decimal-le 10 n (omega arith) (omega arith) (omega arith) in
+    sym (decimal_from_appends decimal_below appends_digits 10 n (omega arith) short)
 
 -- ---- registers
 
@@ -96,13 +100,15 @@ module _ {l x : Text} where
       → Adds l (register_text r) 12 x
   register_number r t v p = rw (ne_eqb r Temp t, ne_eqb r Ret v) p
 
-  pub place_lem : (w : ℕ) (s : List ℕ) {p : Loc} {i k : ℕ} → p ≡ word_place w → i ≡ index_of p → place_text p ≡ s ++ decimal (index_of p)
+  pub place_lem : (w : ℕ) (s : List ℕ) {p : Loc} {i k : ℕ} → p ≡ word_place w → i ≡ index_of p
+      → place_text p ≡ s ++ decimal (index_of p)
       → Adds l (s ++ decimal i) k x → Adds l (place_text (word_place w)) k x
   place_lem w s e n t h = rw (← e, t, ← n) h
 
 -- ---- the text of an answer
 
-module _ {l : Text} (t : Text) {k : ℕ} {new : List ℕ} (z : l.len ≡ 0) (n : new ≡ t.bytes.now) (fits : k ≤ length l.bytes.now) where
+module _ {l : Text} (t : Text) {k : ℕ} {new : List ℕ} (z : l.len ≡ 0) (n : new ≡ t.bytes.now)
+    (fits : k ≤ length l.bytes.now) where
   writes_answer : (a : Answer) {xs : List ℕ} → answer_text a ≡ xs → Adds l xs k t → WritesAnswer a l.bytes.now new t.len
   writes_answer a e q =
       let text = answer_text a in

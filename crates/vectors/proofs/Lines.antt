@@ -1,11 +1,11 @@
 -- Lines of a text: the first one, comments, and those up to a line 'end'. Assumes nothing.
-use Rattle.std.proofs.Common.{◌≡◌, ℕ, suc, ◌+◌, ◌<◌, Bool, true, false, cond, not, List, [], ◌∷◌, ◌++◌, Some, None, length, drop, nat_eq, nat_lt, refl, sym, ◌∙◌, arith}
+use Rattle.std.proofs.Common.{◌≡◌, ℕ, suc, ◌+◌, ◌<◌, Bool, true, false, cond, not, List, [], ◌∷◌, ◌++◌}
+use Rattle.std.proofs.Common.{Some, None, length, drop, nat_eq, nat_lt, refl, ◌∙◌, arith}
 use Rattle.std.specs.List.{position, position_or_len}
 use Rattle.std.proofs.lemmas.Bool.Decides.{Decides-eqb}
 use Rattle.std.proofs.lemmas.Grind.{common_steps}
 use Rattle.std.proofs.lemmas.Slice.Eq.{starts_is}
 use Rattle.std.proofs.lemmas.List.{length-drop}
-use mathlib.Core.Bool.{false≢true}
 use lib.Seq.{drop-drop}
 use Rattle.vectors.specs.Vectors.{begins, end_line, line_length, comments_length, end_length}
 
@@ -15,14 +15,17 @@ abbrev pub is_newline : ℕ → Bool
 is_newline b = nat_eq b 10
 
 -- a line ends with the first newline, and otherwise where the text does
-line_at : (text : List ℕ) → line_length text ≡ cond (nat_lt (position_or_len is_newline text) (length text)) (position_or_len is_newline text + 1) (length text)
+abbrev to_newline : List ℕ → ℕ
+to_newline text = cond (nat_lt (position_or_len is_newline text) (length text)) (position_or_len is_newline text + 1) (length text)
+
+line_at : (text : List ℕ) → line_length text ≡ to_newline text
 unfolding line_length
 line_at [] = refl
 line_at (b ∷ bs) = go (nat_eq b 10) (line_at bs)
   where
-    go : (e : Bool) → line_length bs ≡ cond (nat_lt (position_or_len is_newline bs) (length bs)) (position_or_len is_newline bs + 1) (length bs)
-        → cond e 1 (suc (line_length bs))
-        ≡ cond (nat_lt (cond (not e) (1 + position_or_len is_newline bs) 0) (suc (length bs))) (cond (not e) (1 + position_or_len is_newline bs) 0 + 1) (suc (length bs))
+    go : (e : Bool) → line_length bs ≡ to_newline bs
+        → let found = cond (not e) (1 + position_or_len is_newline bs) 0 in
+        cond e 1 (suc (line_length bs)) ≡ cond (nat_lt found (suc (length bs))) (found + 1) (suc (length bs))
     go true h = grind arith
     go false h = grind arith
 
@@ -76,12 +79,6 @@ unfolding comments_length begins
 comment_passed text e after =
     let whole : text ≡ 35 ∷ drop 1 text = (starts_is Decides-eqb text hash _ e).0 refl in
     counts_on comments_length (λ (inside : Bool). refl) (λ b bs. refl) text after (rw whole)
-
--- a text that begins with bytes is not empty
-pub begins_some : (b : ℕ) (s text : List ℕ) → true ≡ begins (b ∷ s) text → 0 < length text
-unfolding begins
-begins_some b s [] e = absurd (false≢true (sym e))
-begins_some b s (c ∷ cs) e = omega arith
 
 -- ---- lines up to 'end'
 

@@ -15,7 +15,8 @@ loop-text-preserved c =
     let next : c.skip_comments-in-loop-text.new.self.text.now ≡ next_vector text =
     c.skip_comments-in-loop-text.ensures ∙ ap vectors_of c.skip_vector.ensures.rest in
     let shorter : length c.skip_comments-in-loop-text.new.self.text.now < length text =
-    rw c.skip_comments-in-loop-text.ensures (omega (arith, c.skip_vector.ensures.shorter some, length-drop (comments_length false rest) rest)) in
+    rw c.skip_comments-in-loop-text.ensures
+    (omega (arith, c.skip_vector.ensures.shorter some, length-drop (comments_length false rest) rest)) in
     let counted : CountsOne c.loop-text.t text c.if-not-holds.t = elim c.if-not-holds.branch [
       | then-not-holds w ↦ rw w.t-is (record { count = refl; wrong = wrong_one text _ c.holds.ensures w.if-not-holds.true })
       | else-not-holds w ↦ rw w.t-is (record { count = refl; wrong = wrong_not text _ c.holds.ensures w.if-not-holds.false })

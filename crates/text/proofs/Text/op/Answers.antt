@@ -63,7 +63,8 @@ returns-in-7-clause-adds c =
 pub returns-in-8-clause-adds : goal.returns-in-8-clause-adds
 unfolding bytes op_text words_op
 returns-in-8-clause-adds c =
-    let text = adds_then (adds_then (adds_then (adds_then c.push-in-8.ensures.adds c.register-in-8.ensures.adds) c.register-in-8-2.ensures.adds) c.register-in-8-3.ensures.adds) c.place-in-8.ensures.adds in
+    let first = adds_then (adds_then c.push-in-8.ensures.adds c.register-in-8.ensures.adds) c.register-in-8-2.ensures.adds in
+    let text = adds_then (adds_then first c.register-in-8-3.ensures.adds) c.place-in-8.ensures.adds in
     rw c.in-8.is (adds_within 58 (omega arith) text)
 
 -- loadmath
@@ -84,7 +85,8 @@ returns-in-10-clause-adds c =
 pub returns-in-11-clause-adds : goal.returns-in-11-clause-adds
 unfolding bytes op_text words_op
 returns-in-11-clause-adds c =
-    let text = adds_then (adds_then (adds_then c.push-in-11.ensures.adds c.decimal.ensures.adds) c.push-in-11-2.ensures.adds) c.decimal-in-11.ensures.adds in
+    let function = adds_then (adds_then c.push-in-11.ensures.adds c.decimal.ensures.adds) c.push-in-11-2.ensures.adds in
+    let text = adds_then function c.decimal-in-11.ensures.adds in
     rw c.in-11.is (adds_within 58 (omega arith) text)
 
 -- need
