@@ -84,11 +84,10 @@ impl Trimmer<'_> {
             (rows_from self.now.rows.now 0 self.now.state.count) result }
     {
         let mut found = None;
-        let mut k = last;
-        while k != 0 {
-            k -= 1;
+        let mut link = last;
+        while let Some(k) = link.checked_sub(1) {
             found = self.hits(i, key, k).or(found);
-            k = self.rows[k as usize].link();
+            link = self.rows[k as usize].link();
         }
         found
     }

@@ -3,7 +3,7 @@ use Rattle.calls.proofs.Search.{Searched}
 use Rattle.calls.proofs.Trimmer.seek.Given as goal
 
 abbrev pub invariant-loop-k : goal.invariant-loop-k
-invariant-loop-k l = Searched l.self.nodes.words.now l.self.marks.now l.self.rows.now l.i l.key l.self.state.count l.k l.found
+invariant-loop-k l = Searched l.self.nodes.words.now l.self.marks.now l.self.rows.now l.i l.key l.self.state.count l.link l.found
 
 abbrev pub decreases-loop-k : goal.decreases-loop-k
-decreases-loop-k l = l.k
+decreases-loop-k l = l.link
