@@ -28,6 +28,9 @@ use Rattle.block.specs.Sharing.{Eliminated}
 use Rattle.std.specs.Prelude.{Result, Ok, Err}
 use Rattle.refusal.specs.declared.Refusal.{Refusal}
 use Rattle.refusal.specs.declared.Refusal.TheVariants.{Call}
+use Rattle.trim.specs.Wide.{TooWide}
+use Rattle.trim.proofs.FirstRows.{first_rows}
+use Rattle.std.specs.Prelude.{take}
 use Rattle.builder.specs.Steps.{Listable, settings_of, trims_rows, RowsTrimTo, TrimsTo}
 
 -- an array has room for as many rows as it has
@@ -40,17 +43,17 @@ zeros_unmark = record { blank = λ i. zeros_unmarked node_limit i; wide = length
 
 -- ---- from the rows that sharing left
 
-module _ (g : Settings) (ws ms : List ℕ) (er : List Row) (e : State) (handed : SheetEliminated ws ms er g.nodes e)
+module _ (g : Settings) (ws : List ℕ) (n : ℕ) (ms : List ℕ) (er : List Row) (e : State) (handed : SheetEliminated ws ms er n e)
     (ms' : List ℕ) (rs : List Row) (s : State)
-    (put : SheetTrimmed g.sharing g.scratch ws ms ms' er rs g.nodes e s) (es : List ℕ)
-    (numbers : Ershovs ws ms' es 0 g.nodes)
+    (put : SheetTrimmed g.sharing g.scratch ws ms ms' er rs n e s) (es : List ℕ)
+    (numbers : Ershovs ws ms' es 0 n)
     (wide : Bool)
-    (by_rows : (places : ℕ → Loc) → wide ≡ too_wide g.scratch (statements_of places ws ms' (rows_from rs 0 s.count)))
+    (by_rows : TooWide ws ms' (take s.count rs) g.scratch 0 (length (take s.count rs)) wide)
   where
     rows_listable : Listable ws ms' es rs s
     rows_listable =
         record {
-          nodes = g.nodes;
+          nodes = n;
           table = handed.table;
           numbers = numbers;
           few = put.few;
@@ -62,15 +65,17 @@ module _ (g : Settings) (ws ms : List ℕ) (er : List Row) (e : State) (handed :
         }
 
     -- check 8 of the rows is that of the statements
-    wide_is : (places : ℕ → Loc) → Fresh places ws g.nodes →
+    wide_is : (places : ℕ → Loc) → Fresh places ws n →
         too_wide g.scratch (trims_rows g ws ms er e places).statements ≡ wide
-    wide_is places f = rw (put.trimmed places f) (sym (by_rows places))
+    wide_is places f =
+        rw (put.trimmed places f) (ap (λ (l : List Row). too_wide g.scratch (statements_of places ws ms' l)) (sym (first_rows rs s.count put.long))
+        ∙ sym (by_rows places))
 
-    pub rows_refused : wide ≡ true → RowsTrimTo g ws ms er e ms' es rs (Err Call)
+    pub rows_refused : wide ≡ true → RowsTrimTo g ws n ms er e ms' es rs (Err Call)
     unfolding RowsTrimTo
     rows_refused on = (refl, λ places f. wide_is places f ∙ on)
 
-    pub rows_trimmed : wide ≡ false → RowsTrimTo g ws ms er e ms' es rs (Ok s)
+    pub rows_trimmed : wide ≡ false → RowsTrimTo g ws n ms er e ms' es rs (Ok s)
     unfolding RowsTrimTo
     rows_trimmed off = (rows_listable, λ places f. (put.trimmed places f, wide_is places f ∙ off))
 
@@ -93,7 +98,7 @@ module _ (h : Header) (ws : List ℕ) (rows : List Row) (n : ℕ) (ms : List ℕ
     same_texts = rw (same_sheet, is) refl
 
     -- from the definition's number of texts and eliminated statements to those of sharing
-    trimmed_is : trimmed file q.sheet ≡ trims_rows (settings_of h n) ws ms er e (temporary file)
+    trimmed_is : trimmed file q.sheet ≡ trims_rows (settings_of h) ws ms er e (temporary file)
     unfolding trimmed eliminated
     trimmed_is =
         let trims : ℕ → List Statement → _ = λ k ss. trim_all (sharing file) (scratch_count file) (temporary file) k [] ss in
@@ -104,13 +109,13 @@ module _ (h : Header) (ws : List ℕ) (rows : List Row) (n : ℕ) (ms : List ℕ
         ∙ rw is refl
 
     -- so is check 8
-    wide_was : {wide : Bool} → too_wide h.scratch (trims_rows (settings_of h n) ws ms er e (temporary file)).statements ≡ wide
+    wide_was : {wide : Bool} → too_wide h.scratch (trims_rows (settings_of h) ws ms er e (temporary file)).statements ≡ wide
         → too_wide (scratch_count file) (trimmed file q.sheet).statements ≡ wide
     wide_was k =
         let scratch : h.scratch ≡ scratch_count file = rw is refl in
         ap₂ (λ (c : ℕ) (t : Trimming). too_wide c t.statements) (sym scratch) trimmed_is ∙ k
 
-  pub sheet_trims : (t : Result State Refusal) → RowsTrimTo (settings_of h n) ws ms er e ms' es rs t → TrimsTo h ws rows n ms' es rs t
+  pub sheet_trims : (t : Result State Refusal) → RowsTrimTo (settings_of h) ws n ms er e ms' es rs t → TrimsTo h ws rows n ms' es rs t
   unfolding TrimsTo RowsTrimTo temporary_count
   sheet_trims (Ok s) x = (
     x.0,

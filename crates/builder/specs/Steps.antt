@@ -46,9 +46,9 @@ pub record Listable (ws ms es : List ℕ) (rs : List Row) (s : State) : Type 0 w
   pub named : All (NumberedBelow s.next) (rows_from rs 0 s.count)
   pub placed : All (OnRoot (λ i. i < nodes)) (rows_from rs 0 s.count)
 
--- what trimming goes by, of a sheet of n nodes
-abbrev pub settings_of : (h : Header) (n : ℕ) → Settings
-settings_of h n = record { nodes = n; scratch = h.scratch; sharing = h.sharing }
+-- what trimming goes by
+abbrev pub settings_of : (h : Header) → Settings
+settings_of h = record { scratch = h.scratch; sharing = h.sharing }
 
 -- no node marked, no call chained, and room for the rows of trimmed statements of a sheet of n nodes
 pub record TrimReady (h : Header) (n : ℕ) (ms es : List ℕ) (rs : List Row) : Type 0 where
@@ -63,16 +63,16 @@ trims_rows g ws ms er e places =
     trim_all g.sharing g.scratch places e.next [] (statements_of places ws ms (rows_from er 0 e.count))
 
 -- the end of the first step is the definition's, wherever temporaries are
-unfoldable pub RowsTrimTo : (g : Settings) (ws ms : List ℕ) (er : List Row) (e : State) (ms' es : List ℕ) (rs : List Row)
-    → Result State Refusal → Type 0
-RowsTrimTo g ws ms er e ms' es rs (Ok s) =
+unfoldable pub RowsTrimTo : (g : Settings) (ws : List ℕ) (n : ℕ) (ms : List ℕ) (er : List Row) (e : State) (ms' es : List ℕ)
+    (rs : List Row) → Result State Refusal → Type 0
+RowsTrimTo g ws n ms er e ms' es rs (Ok s) =
     Listable ws ms' es rs s
-    × ((places : ℕ → Loc) → Fresh places ws g.nodes →
+    × ((places : ℕ → Loc) → Fresh places ws n →
     (trims_rows g ws ms er e places ≡ record { next = s.next; statements = statements_of places ws ms' (rows_from rs 0 s.count) })
     × (too_wide g.scratch (trims_rows g ws ms er e places).statements ≡ false))
-RowsTrimTo g ws ms er e ms' es rs (Err r) =
+RowsTrimTo g ws n ms er e ms' es rs (Err r) =
     (r ≡ Call)
-    × ((places : ℕ → Loc) → Fresh places ws g.nodes → too_wide g.scratch (trims_rows g ws ms er e places).statements ≡ true)
+    × ((places : ℕ → Loc) → Fresh places ws n → too_wide g.scratch (trims_rows g ws ms er e places).statements ≡ true)
 
 -- the first step is the definition's, of each file whose sheet stands in the words and rows
 unfoldable pub TrimsTo : (h : Header) (ws : List ℕ) (rows : List Row) (n : ℕ) (ms es : List ℕ) (rs : List Row)
