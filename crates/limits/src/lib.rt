@@ -9,10 +9,8 @@ pub const WORK: usize = 16384;
 
 pub const BYTES: usize = 16384;
 
-// Where the flags end; the last tag.
+// Where the flags end.
 pub const FLAGS: u8 = 8;
-
-pub const LAST_TAG: u8 = 9;
 
 // The word of the lowest power, which has no size of 31 bits.
 pub const LOWEST_POWER: u32 = 0x8000_0000;
@@ -27,14 +25,6 @@ pub const SMALL: usize = 128;
 
 // The trees in which sharing looks nodes up by their mixes: so many that few nodes share one.
 pub const SLOTS: usize = 512;
-
-// Where the links of call rows end, above the number of any row, and the keys beside them end: both fit a word.
-pub const LINK_END: u32 = 2048;
-
-pub const KEY_END: u64 = 1048576;
-
-// The lowest of a mix's uppermost bits, which are its key.
-pub const KEYED_FROM: u64 = 0xffff_ffff_ffff_ffff / KEY_END + 1;
 
 // The levels of a tree.
 pub const DEPTH: u32 = 64;
