@@ -68,8 +68,8 @@ module _ (g : Settings) (ws : List ℕ) (n : ℕ) (ms : List ℕ) (er : List Row
     wide_is : (places : ℕ → Loc) → Fresh places ws n →
         too_wide g.scratch (trims_rows g ws ms er e places).statements ≡ wide
     wide_is places f =
-        rw (put.trimmed places f) (ap (λ (l : List Row). too_wide g.scratch (statements_of places ws ms' l)) (sym (first_rows rs s.count put.long))
-        ∙ sym (by_rows places))
+        let of_rows : List Row → Bool = λ l. too_wide g.scratch (statements_of places ws ms' l) in
+        rw (put.trimmed places f) (ap of_rows (sym (first_rows rs s.count put.long)) ∙ sym (by_rows places))
 
     pub rows_refused : wide ≡ true → RowsTrimTo g ws n ms er e ms' es rs (Err Call)
     unfolding RowsTrimTo

@@ -10,8 +10,8 @@ returns-then-values-at c = none_past c.args.values.now c.type_inv.values c.args.
 pub returns : goal.returns
 returns c =
     let unit : c.if-negative.unit ≡ pattern_of c.args.negative
-        = elim c.if-negative.branch [
-          then-negative w ↦ rw (w.unit-is, w.if-negative.true) refl
-          | else-negative w ↦ rw (w.unit-is, w.if-negative.false) refl
-        ] in
+    = elim c.if-negative.branch [
+      | then-negative w ↦ rw (w.unit-is, w.if-negative.true) refl
+      | else-negative w ↦ rw (w.unit-is, w.if-negative.false) refl
+    ] in
     rw unit (unit_read c.args.values.now c.type_inv.values c.args.negative c.args.k c.number64.result c.number64.ensures)

@@ -4,4 +4,6 @@ use Rattle.definitions.specs.Sheet.{pairs_fit, in_order, pairs_from}
 use Rattle.reader.proofs.Sheet.pairs_fit.Given as goal
 
 abbrev pub invariant-loop-k : goal.invariant-loop-k
-invariant-loop-k l = pairs_fit l.self.file.now ≡ in_order l.end (length l.self.file.now) (pairs_from l.self.file.now (8 + 4 * l.k) (l.count - l.k))
+invariant-loop-k l =
+    let file = l.self.file.now in
+    pairs_fit file ≡ in_order l.end (length file) (pairs_from file (8 + 4 * l.k) (l.count - l.k))

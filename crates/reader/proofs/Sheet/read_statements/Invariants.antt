@@ -10,7 +10,9 @@ use Rattle.reader.proofs.Sheet.read_statements.Given as goal
 
 abbrev pub invariant-loop-k : goal.invariant-loop-k
 invariant-loop-k l =
+    let file = l.self.file.now in
+    let left = statements_at file l.n (pairs_from file (8 + 4 * l.k) (l.self.header.count - l.k)) in
+    let all = statements_at file 0 (pairs file) in
     (r : Result (Header × ℕ) Refusal) (ws' : List ℕ) (rows' : List Row)
-    → StatementsRead (header_of l.self.file.now) (statements_at l.self.file.now l.n (pairs_from l.self.file.now (8 + 4 * l.k) (l.self.header.count - l.k))) l.n l.k
-    l.ws l.rows r ws' rows'
-    → StatementsRead (header_of l.self.file.now) (statements_at l.self.file.now 0 (pairs l.self.file.now)) 0 0 l.initial.ws l.initial.rows r ws' rows'
+    → StatementsRead (header_of file) left l.n l.k l.ws l.rows r ws' rows'
+    → StatementsRead (header_of file) all 0 0 l.initial.ws l.initial.rows r ws' rows'
