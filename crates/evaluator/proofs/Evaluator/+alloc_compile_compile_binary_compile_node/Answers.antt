@@ -8,10 +8,12 @@ use Rattle.evaluator.proofs.Evaluator.+alloc_compile_compile_binary_compile_node
 
 -- ---- compile
 
-pub compile-returns-then-m-ne0 : goal.compile-returns-then-m-ne0
-compile-returns-then-m-ne0 t c =
+pub compile-returns-in-Some : goal.compile-returns-in-Some
+compile-returns-in-Some t c =
     let near = c.requires.known.near in
-    view_emitted_marked c.args.self.now c.args.i c.args.to near.ends c.if-m-ne0.true c.temporary.ensures c.load_var.ensures
+    let mark = c.in-Some.ensures in
+    view_emitted_marked c.args.self.now c.args.i c.args.to near.ends (omega (arith, mark.0)) (rw (← mark.1) c.temporary.ensures)
+    c.load_var.ensures
 
 -- ---- compile_node, from the node that was unpacked
 
