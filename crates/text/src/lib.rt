@@ -17,7 +17,7 @@ const TEMP: u32 = 254;
 
 const RET: u32 = 255;
 
-// The text so far: the first `len` of the bytes that are lent.
+// The text so far: the first `len` of the bytes that are lent, and no String, since there is no heap.
 #[derive(Drop)]
 struct Text<'a> {
     bytes: &'a mut [u8],
@@ -173,7 +173,8 @@ fn letter(p: Loc) -> &'static str
     }
 }
 
-// The whole text of an answer, at the start of a text, and its length.
+// The whole text of an answer, at the start of a text, and its length. The answer comes as its three numbers, any that there are: a
+// Result would ask more of a caller.
 pub fn answer_text(number: u32, ops: u32, temps: u32, out: &[u32], text: &mut [u8]) -> usize
     requires ops_in_bounds { 6 * ops ≤ length out.now }
     requires ops_in_bounds_2 { line_limit * (ops + 1) ≤ length text.old }
