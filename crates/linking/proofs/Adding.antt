@@ -1,47 +1,32 @@
 -- One row more, by its words: its tree, and the trees after it as before. Assumes nothing.
-use mathlib.Core.Path.{◌≡◌, refl, ◌∙◌}
-use mathlib.Core.List.{List, [], ◌∷◌}
+use mathlib.Core.Path.{◌≡◌, ◌∙◌}
+use mathlib.Core.List.{List, []}
 use Prim.Native.Nat.{ℕ, ◌+◌, ◌*◌, ◌<◌}
 use native.Mathlib.Omega.{arith}
-use lib.ListN.{length, get_or}
+use lib.ListN.{length}
 use lib.Seq.{sets, length-sets}
 use Rattle.tidying.proofs.StoreRuns.{get_d_sets_above}
 use Rattle.definitions.specs.Tree.{Tree}
 use Rattle.node.specs.declared.Node.{Node}
-use Rattle.node.specs.Nodes.{node_tag, node_word, node_right, node_of, node_at, end_at, Packed}
+use Rattle.node.specs.Nodes.{node_words, node_at, end_at}
 use Rattle.node.specs.Sized.{SizedNode}
-use Rattle.node.proofs.Heads.{node_back}
 use Rattle.node.proofs.Nodes.{equal_or}
 use Rattle.node.proofs.Stores.{Has, sets_have}
-use Rattle.tidying.proofs.Laying.{words_node, words_packed}
+use Rattle.node.proofs.Laying.{node_words_back, node_packed}
 use Rattle.node.specs.Sides.{Sides}
 use Rattle.node.proofs.Sides.{sides_more}
 use Rattle.links.specs.Links.{link_tree, linked, Inside, Links}
 use Rattle.links.proofs.Links.{over, linked_node, Kept, links_kept, linked_kept}
 use Rattle.linking.specs.Rows.{Free, Added}
 
--- a node's words
-pub record WordsOf (tag word right : ℕ) (m : Node) : Type 0 where
-  pub node : node_of tag word right ≡ m
-  pub tag_is : tag ≡ node_tag m
-  pub word_is : word ≡ node_word m
-
-pub sized_words : (m : Node) → SizedNode m → WordsOf (node_tag m) (node_word m) (node_right m) m
-sized_words m s = record { node = node_back m s; tag_is = refl; word_is = refl }
-
-pub packed_words : (ws : List ℕ) (i : ℕ) → Packed ws i
-    → WordsOf (get_or ws (4 * i) 0) (get_or ws (4 * i + 1) 0) (get_or ws (4 * i + 2) 0) (node_at ws i)
-unfolding node_at
-packed_words ws i packed = record { node = refl; tag_is = packed.0; word_is = packed.1 }
-
 -- rows that come after row i
 abbrev pub After : (rows : List ℕ) (i j : ℕ) → Type 0
 After rows i j = (i < j) × Inside rows j
 
-module _ {rows : List ℕ} {i : ℕ} (free : Free rows i) {tag word right : ℕ} {m : Node} (words : WordsOf tag word right m)
-    (left : ℕ) (sides : Sides (After rows i) left m) where
+module _ {rows : List ℕ} {i : ℕ} (free : Free rows i) (m : Node) (sized : SizedNode m) (left : ℕ)
+    (sides : Sides (After rows i) left m) where
   abbrev put : List ℕ
-  put = tag ∷ word ∷ right ∷ left ∷ []
+  put = node_words m left
 
   abbrev after : List ℕ
   after = sets rows (4 * i) put
@@ -53,10 +38,10 @@ module _ {rows : List ℕ} {i : ℕ} (free : Free rows i) {tag word right : ℕ}
   has = sets_have put rows (4 * i) (omega (arith, free.inside))
 
   node_is : node_at after i ≡ m
-  node_is = (words_node after [] i tag word right left has).0 ∙ words.node
+  node_is = (node_words_back after [] i m left sized has).0
 
   end_is : end_at after i ≡ left
-  end_is = (words_node after [] i tag word right left has).1
+  end_is = (node_words_back after [] i m left sized has).1
 
   kept : Kept rows after (i + 1)
   kept = record { whole = whole; words = λ k a. get_d_sets_above put rows (4 * i) k 0 (omega arith) }
@@ -68,7 +53,7 @@ module _ {rows : List ℕ} {i : ℕ} (free : Free rows i) {tag word right : ℕ}
         few = later.few;
         rises = λ j a b. equal_or j i (λ e. rw (e, node_is, end_is, whole) sides) (λ e. later.rises j (omega (arith, e)) b);
         packed = λ j a b. equal_or j i
-            (λ e. rw e (words_packed after [] i tag word right left m has words.node words.tag_is words.word_is))
+            (λ e. rw e (node_packed after [] i m left sized has))
             (λ e. later.packed j (omega (arith, e)) b);
       }
 

@@ -14,7 +14,8 @@ ghost use Rattle.alike.specs.Alike.{Mixed};
 ghost use Rattle.rules.specs.Moves.{From};
 ghost use Rattle.linking.specs.Rows.{Free, Added, Tidied, Kept, Entered};
 
-use operation::{BinaryCode, UnaryCode};
+use node::Node;
+use operation::{BinaryCode, One, Two, UnaryCode};
 use rules::{Made, Rules};
 
 // Row i as the unary of a code over row j.
@@ -22,23 +23,19 @@ fn link_unary(rows: &mut [u32], i: u32, code: UnaryCode, j: u32)
     requires { Free rows.old i × From rows.old (i + 1) j }
     ensures { Added rows.old rows.new i (one (Unary code) (linked rows.old j)) }
 {
-    node::pack(rows, i, 3, code.code() as u32, 0, j)
+    node::pack(rows, i, Node::Unary(One::Unary(code)), j)
 }
 
-// Row i as 1 times row j: row j's own words, or the real part of a constant.
+// Row i as 1 times row j: row j's own node, or the real part of a constant.
 fn link_alone(rows: &mut [u32], i: u32, j: u32)
     requires { Free rows.old i × From rows.old (i + 1) j }
     ensures { Added rows.old rows.new i (alone (linked rows.old j)) }
 {
-    let at = 4 * (j as usize);
-    let tag = rows[at];
-    let word = rows[at + 1];
-    let right = rows[at + 2];
-    let left = rows[at + 3];
-    if tag == 1 {
-        link_unary(rows, i, UnaryCode::Real, j)
-    } else {
-        node::pack(rows, i, tag, word, right, left)
+    let x = node::unpack(rows, j);
+    let left = node::end_of(rows, j);
+    match x {
+        Node::Const(_) => link_unary(rows, i, UnaryCode::Real, j),
+        _ => node::pack(rows, i, x, left),
     }
 }
 
@@ -58,7 +55,7 @@ fn link_binary(
 {
     let rules = Rules { rows, mx, values };
     match rules.settle(code, l, r) {
-        Made::Node(c, x, y) => node::pack(rows, i, 4, c.code() as u32, y, x),
+        Made::Node(c, x, y) => node::pack(rows, i, Node::Binary(Two::Binary(c), y), x),
         Made::Neg(j) => link_unary(rows, i, UnaryCode::Neg, j),
         Made::Alone(j) => link_alone(rows, i, j),
         Made::Abs2(j) => link_unary(rows, i, UnaryCode::Abs2, j),
@@ -71,18 +68,18 @@ fn link_node(ws: &[u32], rows: &mut [u32], mx: &[u64], values: &[u8], i: u32) ->
         × (4 * i + 3 < length rows.old) }
     ensures { Entered values.now ws.now rows.old rows.new i result }
 {
-    // A tag is a number here, since nodes and rows are lent words (C interface).
-    let at = 4 * (i as usize);
-    if ws[at] == 4 {
-        let code = BinaryCode::of((ws[at + 1] % 256) as u8);
-        let rules = Rules { rows, mx, values };
-        if rules.may_fit(code, i + 1, ws[at + 2]) {
-            link_binary(rows, mx, values, i, code, i + 1, ws[at + 2]);
-            return true;
+    let x = node::unpack(ws, i);
+    let rules = Rules { rows, mx, values };
+    match x {
+        Node::Binary(Two::Binary(code), right) if rules.may_fit(code, i + 1, right) => {
+            link_binary(rows, mx, values, i, code, i + 1, right);
+            true
+        }
+        _ => {
+            node::pack(rows, i, x, i + 1);
+            false
         }
     }
-    node::pack(rows, i, ws[at], ws[at + 1], ws[at + 2], i + 1);
-    false
 }
 
 // The mix of row i's tree, from those of its sides.

@@ -10,18 +10,16 @@ pub fn lay(rows: &[u32], i: u32, ws: &mut [u32], m: u32) -> u32
     requires { Fits rows.now i m }
     ensures { Lays rows.now i m ws.old ws.new result }
 {
-    let at = 4 * (i as usize);
-    let tag = rows[at];
-    let word = rows[at + 1];
-    let left = rows[at + 3];
-    let (right, end) = match node::unpack(rows, i) {
-        Node::Const(_) | Node::Var(_) => (0, m + 1),
-        Node::Unary(_) => (0, lay(rows, left, ws, m + 1)),
-        Node::Binary(_, right) => {
+    let node = node::unpack(rows, i);
+    let left = node::end_of(rows, i);
+    let (x, end) = match node {
+        Node::Const(_) | Node::Var(_) => (node, m + 1),
+        Node::Unary(_) => (node, lay(rows, left, ws, m + 1)),
+        Node::Binary(o, right) => {
             let mid = lay(rows, left, ws, m + 1);
-            (mid, lay(rows, right, ws, mid))
+            (Node::Binary(o, mid), lay(rows, right, ws, mid))
         }
     };
-    node::pack(ws, m, tag, word, right, end);
+    node::pack(ws, m, x, end);
     end
 }

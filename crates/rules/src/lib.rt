@@ -8,7 +8,8 @@ ghost use Rattle.links.specs.Links.{Row, linked};
 ghost use Rattle.alike.specs.Alike.{Pair, Mixed};
 ghost use Rattle.rules.specs.Moves.{goes, conjugates, Moved, Settled};
 
-use operation::{BinaryCode, UnaryCode};
+use node::Node;
+use operation::{BinaryCode, One, UnaryCode};
 
 // What an operation over two rows is in the end.
 #[derive(Clone, Copy)]
@@ -35,22 +36,23 @@ pub struct Rules<'a> {
 }
 
 impl Rules<'_> {
-    // Is row j a constant of the value 1, or −1? A tag is a number here, since rows are lent words (C interface).
+    // Is row j a constant of the value 1, or −1?
+    #[tactic(auto, using(links::proofs::Links::row_tree))]
     fn is_const(&self, j: u32, negative: bool) -> bool
         requires { Row self.now.rows.now j }
         ensures { result ≡ is_const (is_unit negative self.now.values.now) (linked self.now.rows.now j) }
     {
-        let at = 4 * (j as usize);
-        self.rows[at] == 1 && values::is_unit(self.values, negative, self.rows[at + 1])
+        matches!(node::unpack(self.rows, j),
+            Node::Const(k) if values::is_unit(self.values, negative, u32::from(k)))
     }
 
     // Is it the unary of that code?
+    #[tactic(auto, using(links::proofs::Links::row_tree, crate::proofs::Rows::other_code))]
     fn is_unary(&self, j: u32, code: UnaryCode) -> bool
         requires { Row self.now.rows.now j }
         ensures { result ≡ is_unary code (linked self.now.rows.now j) }
     {
-        let at = 4 * (j as usize);
-        self.rows[at] == 3 && self.rows[at + 1] == code.code() as u32
+        matches!(node::unpack(self.rows, j), Node::Unary(One::Unary(c)) if c == code)
     }
 
     // Is row a the conjugate of row b?

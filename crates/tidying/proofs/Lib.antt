@@ -14,8 +14,6 @@ pub mod Tidied
 pub mod Sizing
 -- trees with the heads of nodes
 pub mod Heads
--- a node laid after its sides, and what its words tell
-pub mod Laying
 -- more trees laid after others
 pub mod Forest
 -- what stands after a run of stores
