@@ -61,7 +61,9 @@ module _ {rows : List ℕ} {i : ℕ} (free : Free rows i) {j : ℕ} (row : From 
 
     pub constant_alone : {k : ℕ} {rows' : List ℕ} → x ≡ Const k → Added rows rows' i (one (Unary Real) (linked rows j))
         → Added rows rows' i (alone (linked rows j))
-    constant_alone e added = let constant-is = rw e at tree_told in rw (ap (one (Unary Real)) constant-is ∙ sym (ap alone constant-is)) at added
+    constant_alone e added =
+        let constant-is = rw e at tree_told in
+        rw (ap (one (Unary Real)) constant-is ∙ sym (ap alone constant-is)) at added
 
     pub other_alone : {rows' : List ℕ} → ((k : ℕ) → x ≡ Const k → ⊥) → rows' ≡ sets rows (4 * i) (node_words x l)
         → Added rows rows' i (alone (linked rows j))

@@ -32,7 +32,8 @@ returns-in_default c =
       | in_default-via-in-Binary-Binary-default+else-may_fit w ↦
           let is = rw (rw w.in-Binary-Binary-default.is at w.in-Binary-Binary-default.field-0-is) at w.in-Binary-Binary-default.is in
           binary_unruled c.args.i c.requires.0 c.requires.2 c.unpack-x.ensures is (w.may_fit.ensures w.if-may_fit.false)
-      | in_default-via-in-Binary+in_default w ↦ plain_unruled c.args.i c.requires.0 c.requires.2 c.unpack-x.ensures (λ code right e. search rules)
+      | in_default-via-in-Binary+in_default w ↦
+          plain_unruled c.args.i c.requires.0 c.requires.2 c.unpack-x.ensures (λ code right e. search rules)
       | in_default-via-in_default w ↦ plain_unruled c.args.i c.requires.0 c.requires.2 c.unpack-x.ensures (λ code right e. search rules)
     ] in
     copied_entered c.args.i c.requires.0 c.requires.2 c.unpack-x.ensures unruled c.pack.ensures
