@@ -1,8 +1,9 @@
 // The limits of a sheet, by name, and the arrays that they size.
 #![tactic(auto)]
 
-ghost use Rattle.std.specs.Prelude.{◌≡◌};
+ghost use Rattle.std.specs.Prelude.{◌≡◌, ◌-◌, ◌^◌, ◌<◌, ◌≤◌, get_or, set, SomeIff};
 ghost use Rattle.limits.specs.Limits.{node_limit, depth_limit, row_limit};
+ghost use Rattle.limits.specs.Words.{word_of};
 
 // The words of lent work, and the bytes of a file.
 pub const WORK: usize = 16384;
@@ -45,6 +46,33 @@ pub const TEXT: usize = LINE * (WORK / 6 + 1);
 
 // A word for each node, or for each of as many temporaries.
 pub type PerNode = [u32; NODES];
+
+// An optional number for each node, or for each of as many chains: a word each, 0 or 1 + the number, which get alone reads and set
+// alone writes. Not options (fixed memory: one takes two words, and all of them are cleared on each call).
+#[derive(Drop)]
+pub struct Options {
+    pub words: PerNode,
+}
+
+impl Options {
+    // Inlined, as is set, for a node's number is asked for and matched at once.
+    #[inline(always)]
+    pub fn get(&self, i: u32) -> Option<u32>
+        requires { i < node_limit }
+        ensures { SomeIff result (1 ≤ get_or self.now.words i 0) (get_or self.now.words i 0 - 1) }
+    {
+        self.words[i as usize].checked_sub(1)
+    }
+
+    #[inline(always)]
+    pub fn set(&mut self, i: u32, number: Option<u32>)
+        requires inside { i < node_limit }
+        requires fits { word_of number < 2 ^ 32 }
+        ensures { self.new.words ≡ set self.old.words i (word_of number) }
+    {
+        self.words[i as usize] = number.map_or(0, |k| k + 1);
+    }
+}
 
 // The array sizes and the depth are those of the definitions; contracts elsewhere hold the other limits to theirs.
 pub fn nodes() -> usize
