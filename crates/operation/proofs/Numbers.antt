@@ -1,4 +1,4 @@
--- Codes and their numbers: a code's number gives it back, and one that no code has gives the first. Assumes nothing.
+-- Codes, kinds and their numbers: a number gives its code or kind back, and one that no code has gives the first. Assumes nothing.
 use Prim.Native.Nat.{ℕ, ◌-◌, ◌<◌, ◌≤◌}
 use native.Mathlib.Omega.{arith}
 use mathlib.Core.Bool.{false, ◌&&◌}
@@ -13,6 +13,8 @@ use Rattle.operation.specs.declared.UnaryCode.TheVariants.{Neg}
 use Rattle.operation.specs.declared.BinaryCode.{BinaryCode}
 use Rattle.operation.specs.declared.BinaryCode.TheVariants.{Plus}
 use Rattle.operation.specs.Codes.{is_unary, is_binary}
+use Rattle.operation.specs.declared.Kind.{Kind}
+use Rattle.operation.specs.Kinds.{kind_number, numbered_kind}
 use Rattle.operation.specs.Numbers.{unary_number, unary_codes, unary_code, binary_number, binary_codes, binary_code}
 
 -- outside of a list that counts from 1 stands its first
@@ -37,6 +39,10 @@ unary_code_back c = grind arith
 pub binary_code_back : (c : BinaryCode) → binary_code (binary_number c) ≡ c
 unfolding binary_number binary_code
 binary_code_back c = grind arith
+
+pub kind_back : (k : Kind) → numbered_kind (kind_number k) ≡ k
+unfolding kind_number numbered_kind
+kind_back k = grind arith
 
 -- so numbers tell codes apart
 pub unary_number_tells : (c d : UnaryCode) → unary_number c ≡ unary_number d → c ≡ d

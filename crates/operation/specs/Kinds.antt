@@ -1,0 +1,26 @@
+-- The kinds of operations as an enum has them, and their numbers: document 01, 'The sheet and the list'; T-01.
+use Rattle.std.specs.Prelude.{ℕ, List, [], ◌∷◌, get_or}
+use Rattle.operation.specs.declared.Kind.{Kind}
+use Rattle.operation.specs.declared.Kind.TheVariants.{LoadConst, LoadVar, Save, Mov, Xchg, Uni, Bi, IfElse, LoadMath, LoadConstMath}
+use Rattle.operation.specs.declared.Kind.TheVariants.{Call, Need}
+
+unfoldable pub kind_number : Kind → ℕ
+kind_number LoadConst = 1
+kind_number LoadVar = 2
+kind_number Save = 3
+kind_number Mov = 4
+kind_number Xchg = 5
+kind_number Uni = 6
+kind_number Bi = 7
+kind_number IfElse = 8
+kind_number LoadMath = 9
+kind_number LoadConstMath = 10
+kind_number Call = 11
+kind_number Need = 12
+
+-- and back: a number that no kind has is read as a need, which does nothing
+abbrev pub kinds : List Kind
+kinds = Need ∷ LoadConst ∷ LoadVar ∷ Save ∷ Mov ∷ Xchg ∷ Uni ∷ Bi ∷ IfElse ∷ LoadMath ∷ LoadConstMath ∷ Call ∷ []
+
+unfoldable pub numbered_kind : ℕ → Kind
+numbered_kind n = get_or kinds n Need
