@@ -1,0 +1,12 @@
+-- Trees as their marks show them: numbers of their nodes.
+use Rattle.std.specs.Prelude.{ℕ}
+use Rattle.node.specs.Views.{seen, view}
+use Rattle.ershov.specs.Number.{Numbered}
+use Rattle.ershov.specs.declared.Trees.{Trees}
+
+-- of node i as its mark has it, and without its mark
+abbrev pub ViewNumbered : Trees → (i r : ℕ) → Type 0
+ViewNumbered t i r = Numbered (λ temporary. view temporary t.nodes.words.now t.marks.now.words i) r
+
+abbrev pub SeenNumbered : Trees → (i r : ℕ) → Type 0
+SeenNumbered t i r = Numbered (λ temporary. seen temporary t.nodes.words.now t.marks.now.words i) r
