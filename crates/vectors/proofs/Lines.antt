@@ -1,15 +1,22 @@
 -- Lines of a text: the first one, comments, and those up to a line 'end'. Assumes nothing.
 use Rattle.std.proofs.Common.{◌≡◌, ℕ, suc, ◌+◌, ◌<◌, Bool, true, false, cond, not, List, [], ◌∷◌, ◌++◌}
-use Rattle.std.proofs.Common.{Some, None, length, drop, nat_eq, nat_lt, refl, ◌∙◌, arith}
+use Rattle.std.proofs.Common.{Some, None, length, get_or, drop, nat_eq, nat_lt, refl, sym, ◌∙◌, arith}
 use Rattle.std.specs.List.{position, position_or_len}
 use Rattle.std.proofs.lemmas.Bool.Decides.{Decides-eqb}
 use Rattle.std.proofs.lemmas.Grind.{common_steps}
 use Rattle.std.proofs.lemmas.Slice.Eq.{starts_is}
 use Rattle.std.proofs.lemmas.List.{length-drop}
-use lib.Seq.{drop-drop}
+use lib.Dec.{eqb}
+use lib.Seq.{drop-cons, drop-drop}
 use Rattle.vectors.specs.Vectors.{begins, end_line, line_length, comments_length, end_length}
 
 -- ---- the first line
+
+-- from a byte on it ends there, or goes on
+line_from_lem : (all : List ℕ) (i : ℕ) → i < length all
+    → line_length (drop i all) ≡ cond (eqb (get_or all i 0) 10) 1 (suc (line_length (drop (suc i) all)))
+unfolding line_length
+line_from_lem all i inside = rw (drop-cons all i 0 inside)
 
 abbrev pub is_newline : ℕ → Bool
 is_newline b = nat_eq b 10
@@ -92,11 +99,14 @@ line_passed text e after = counts_on end_length (λ (inside : Bool). refl) (λ b
     other (b ∷ bs) e = rw (← e)
 
 -- the line 'end' is counted whole
-pub line_is_end : (text : List ℕ) → true ≡ begins end_line text → line_length text ≡ end_length false text
+end_line_lem : (text : List ℕ) → begins end_line text ≡ true → line_length text ≡ end_length false text
 unfolding line_length end_length begins
-line_is_end text e =
-    let whole : text ≡ end_line ++ drop 4 text = (starts_is Decides-eqb text end_line _ e).0 refl in
+end_line_lem text e =
+    let whole : text ≡ end_line ++ drop 4 text = (starts_is Decides-eqb text end_line _ (sym e)).0 refl in
     rw whole
+
+pub line_is_end : (text : List ℕ) → true ≡ begins end_line text → line_length text ≡ end_length false text
+line_is_end text e = end_line_lem text (sym e)
 
 pub end_shorter : (text : List ℕ) → 0 < length text → length (drop (end_length false text) text) < length text
 unfolding end_length
