@@ -2,7 +2,10 @@
 #![tactic(auto)]
 
 ghost use Rattle.refusal.specs.Numbers.{number_of};
+ghost use Rattle.refusal.specs.declared.Refusal.TheVariants.{Bytes};
 ghost use Rattle.std.specs.Prelude.{◌≡◌};
+
+use operation::UnknownCode;
 
 // What a sheet is refused for, from 1 on; each number is named once, here.
 #[derive(Clone, Copy, PartialEq, Eq, Debug)]
@@ -36,5 +39,14 @@ impl From<Refusal> for u32 {
 
     fn from(refusal: Refusal) -> u32 {
         refusal as u32
+    }
+}
+
+// A code that no operation has is one of the bytes that name nothing.
+impl From<UnknownCode> for Refusal {
+    ghost from_gives = { λ code refusal. refusal ≡ Bytes };
+
+    fn from(_: UnknownCode) -> Refusal {
+        Refusal::Bytes
     }
 }
