@@ -11,15 +11,14 @@ use Rattle.symbol.specs.Place.{same_place}
 use Rattle.symbol.proofs.PlacesBack.{same_place_equal, same_place_self}
 use Rattle.operation.specs.declared.One.{One}
 use Rattle.operation.specs.declared.Two.{Two}
-use Rattle.definitions.specs.Tree.{Tree, constant, variable, one, two}
+use Rattle.definitions.specs.Tree.{Tree, one, two}
 use Rattle.definitions.specs.Same.{same}
 use Rattle.definitions.proofs.Comparing.{by_test}
-use Rattle.definitions.proofs.Sameness.{Same, constants, variables, ones, straight, crossed, same_tells}
 use Rattle.node.specs.declared.Node.{Node}
 use Rattle.node.specs.declared.Node.TheVariants.{Const, Var, Unary, Binary}
 use Rattle.node.specs.Nodes.{node_at, node_tree, Lies}
 use Rattle.node.specs.Views.{seen, view}
-use Rattle.node.proofs.Heads.{one_same, two_same}
+use Rattle.node.proofs.Heads.{roots_differ, one_same, two_same}
 use Rattle.node.proofs.Nodes.{Side, laid_up, laid_sides}
 use Rattle.node.proofs.Views.{seen_node}
 use Rattle.compare.specs.Comparison.{Comparable, TwoTrees, FourSides, SameSeen, SameView, SideViews}
@@ -27,25 +26,6 @@ use Rattle.compare.specs.Comparison.{Comparable, TwoTrees, FourSides, SameSeen, 
 pub side_comparable : {ws : List ℕ} {i j : ℕ} → Comparable ws i → Side ws side_limit i j → Comparable ws j
 side_comparable {ws} {i} {j} h s =
     record { laid = laid_up ws side_limit depth_limit j s.laid (omega arith); ends = omega (arith, s.ends, h.ends) }
-
--- ---- trees under other operators
-
-abbrev operator : Tree → Node
-operator (constant k) = Const k
-operator (variable p) = Var p
-operator (one o a) = Unary o
-operator (two o l r) = Binary o 0
-
-same_operators : {t u : Tree} → Same t u → operator t ≡ operator u
-same_operators (constants k) = refl
-same_operators (variables p) = refl
-same_operators (ones o h) = refl
-same_operators (straight o h k) = refl
-same_operators (crossed o e h k) = refl
-
-operators_differ : (t u : Tree) → (operator t ≡ operator u → ⊥) → same t u ≡ false
-operators_differ t u apart =
-    by_test (same t u) (λ e. absurd (apart (same_operators (same_tells t u e)))) (λ e. e)
 
 -- ---- a node of each kind, and one of another
 
@@ -145,7 +125,7 @@ module _ {ws : List ℕ} {a b : ℕ} where
     pub unaries_differ : (ms : List ℕ) → (o ≡ p → ⊥) → SameSeen ws ms a b false
     unaries_differ ms apart temporary n f ends-a ends-b =
         let v = view temporary ws ms in
-        sym (seen_nodes u temporary ms ∙ operators_differ (one o (v (a + 1))) (one p (v (b + 1))) (λ e. apart (cc)))
+        sym (seen_nodes u temporary ms ∙ roots_differ (one o (v (a + 1))) (one p (v (b + 1))) (λ e. apart (cc)))
 
   module _ {o p : Two} {r s : ℕ} (u : Unpacked ws a b (Binary o r) (Binary p s)) where
     left_first : Side ws side_limit a (a + 1)
@@ -183,7 +163,7 @@ module _ {ws : List ℕ} {a b : ℕ} where
     binaries_differ ms apart temporary n f ends-a ends-b =
         let v = view temporary ws ms in
         sym (seen_nodes u temporary ms
-        ∙ operators_differ (two o (v (a + 1)) (v r)) (two p (v (b + 1)) (v s)) (λ e. apart (cc)))
+        ∙ roots_differ (two o (v (a + 1)) (v r)) (two p (v (b + 1)) (v s)) (λ e. apart (cc)))
 
   -- ---- of two kinds
 

@@ -64,30 +64,32 @@ module _ (temporary : ℕ → Loc) (ws ms : List ℕ) (n : ℕ) (f : Fresh tempo
       let d = temporary_differs_node v (get_or ms a 0 - 1) b (node_at ws b) (tree_starts h l) refl in
       (ap₂ same first second ∙ d.0, ap₂ same second first ∙ d.1)
 
-  -- two temporaries are told by their marks
-  numbers_tell : (j k : ℕ) → j ≢ 0 → k ≢ 0 → eqb j k ≡ same (variable (temporary (j - 1))) (variable (temporary (k - 1)))
+  -- two temporaries are told by their numbers
+  numbers_tell : (j k : ℕ) → eqb j k ≡ same (variable (temporary j)) (variable (temporary k))
   unfolding same
-  numbers_tell j k p q =
+  numbers_tell j k =
       equal_or j k
-      (λ e. rw e (eq-eqb k k refl ∙ sym (same_place_self (temporary (k - 1)))))
-      (λ e. ne_eqb j k e ∙ sym (different _ _ (λ z. e (omega (arith, f.injective (j - 1) (k - 1) z)))))
+      (λ e. rw e (eq-eqb k k refl ∙ sym (same_place_self (temporary k))))
+      (λ e. ne_eqb j k e ∙ sym (different _ _ (λ z. e (f.injective j k z))))
 
 -- ---- two nodes with their marks
 
-module _ (ws ms : List ℕ) (a b : ℕ) (trees : TwoTrees ws a b) where
-  pub first_mark_decides : Marked ms a → SameView ws ms a b (eqb (get_or ms a 0) (get_or ms b 0))
-  first_mark_decides k temporary n f ends-a ends-b =
-      equal_or (get_or ms b 0) 0
-      (λ z.
-      ne_eqb (get_or ms a 0) (get_or ms b 0) (λ e. k (e ∙ z))
-      ∙ sym (marked_differs_unmarked temporary ws ms n f a b trees.second ends-b k z).0)
-      (λ z.
-      numbers_tell temporary ws ms n f (get_or ms a 0) (get_or ms b 0) k z
-      ∙ sym (ap₂ same (view_marked temporary ws ms a k) (view_marked temporary ws ms b z)))
+module _ (ws ms : List ℕ) (a b : ℕ) where
+  pub both_marks_decide : {j k : ℕ} → (1 ≤ get_or ms a 0) × (j ≡ get_or ms a 0 - 1) → (1 ≤ get_or ms b 0) × (k ≡ get_or ms b 0 - 1) →
+      SameView ws ms a b (eqb j k)
+  both_marks_decide first second temporary n f ends-a ends-b =
+      let marked-a = view_marked temporary ws ms a (λ z. omega (arith, z, first.0)) in
+      let marked-b = view_marked temporary ws ms b (λ z. omega (arith, z, second.0)) in
+      rw (first.1, second.1) (numbers_tell temporary ws ms n f _ _ ∙ sym (ap₂ same marked-a marked-b))
 
-  pub second_mark_decides : get_or ms a 0 ≡ 0 → Marked ms b → SameView ws ms a b false
-  second_mark_decides z k temporary n f ends-a ends-b =
-      sym (marked_differs_unmarked temporary ws ms n f b a trees.first ends-a k z).1
+  module _ (trees : TwoTrees ws a b) where
+    pub first_mark_decides : Marked ms a → get_or ms b 0 ≡ 0 → SameView ws ms a b false
+    first_mark_decides k z temporary n f ends-a ends-b =
+        sym (marked_differs_unmarked temporary ws ms n f a b trees.second ends-b k z).0
+
+    pub second_mark_decides : get_or ms a 0 ≡ 0 → Marked ms b → SameView ws ms a b false
+    second_mark_decides z k temporary n f ends-a ends-b =
+        sym (marked_differs_unmarked temporary ws ms n f b a trees.first ends-a k z).1
 
 -- a mark decides
 pub ruleset mark_decides = (node_low, first_mark_decides, second_mark_decides)

@@ -2,7 +2,7 @@
 use Rattle.std.proofs.Common.{◌≡◌, true, false, arith, rules, refl}
 use Rattle.limits.specs.Limits.{depth_limit}
 use Rattle.node.proofs.Nodes.{laid_room}
-use Rattle.compare.proofs.MarksDecide.{node_low}
+use Rattle.compare.proofs.MarksDecide.{node_low, both_marks_decide}
 use Rattle.compare.proofs.HeadsDecide.{told, consts_decide, vars_decide, unary_trees, unary_side_decides, unaries_differ}
 use Rattle.compare.proofs.HeadsDecide.{binary_trees, binary_sides_decide, binaries_differ}
 use Rattle.compare.proofs.HeadsDecide.{const_differs, var_differs, unary_differs, binary_differs}
@@ -13,6 +13,9 @@ same_nodes-unpack-requires t c = laid_room _ depth_limit _ c.requires.first.laid
 
 pub same_nodes-unpack-requires-2 : goal.same_nodes-unpack-requires-2
 same_nodes-unpack-requires-2 t c = laid_room _ depth_limit _ c.requires.second.laid
+
+pub same_views-returns-in-Some-Some : goal.same_views-returns-in-Some-Some
+same_views-returns-in-Some-Some t c = both_marks_decide _ _ _ _ c.in-Some-Some.ensures c.in-Some-Some.ensures'
 
 -- ---- of one kind
 
