@@ -1,5 +1,5 @@
 -- The kinds of operations as an enum has them, and their numbers: document 01, 'The sheet and the list'; T-01.
-use Rattle.std.specs.Prelude.{ℕ, List, [], ◌∷◌, get_or}
+use Rattle.std.specs.Prelude.{ℕ, cond, eqb}
 use Rattle.operation.specs.declared.Kind.{Kind}
 use Rattle.operation.specs.declared.Kind.TheVariants.{LoadConst, LoadVar, Save, Mov, Xchg, Uni, Bi, IfElse, LoadMath, LoadConstMath}
 use Rattle.operation.specs.declared.Kind.TheVariants.{Call, Need}
@@ -19,8 +19,16 @@ kind_number Call = 11
 kind_number Need = 12
 
 -- and back: a number that no kind has is read as a need, which does nothing
-abbrev pub kinds : List Kind
-kinds = Need ∷ LoadConst ∷ LoadVar ∷ Save ∷ Mov ∷ Xchg ∷ Uni ∷ Bi ∷ IfElse ∷ LoadMath ∷ LoadConstMath ∷ Call ∷ []
-
 unfoldable pub numbered_kind : ℕ → Kind
-numbered_kind n = get_or kinds n Need
+numbered_kind n =
+    cond (eqb n 1) LoadConst
+    (cond (eqb n 2) LoadVar
+    (cond (eqb n 3) Save
+    (cond (eqb n 4) Mov
+    (cond (eqb n 5) Xchg
+    (cond (eqb n 6) Uni
+    (cond (eqb n 7) Bi
+    (cond (eqb n 8) IfElse
+    (cond (eqb n 9) LoadMath
+    (cond (eqb n 10) LoadConstMath
+    (cond (eqb n 11) Call Need))))))))))
