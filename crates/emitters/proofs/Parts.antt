@@ -31,10 +31,11 @@ module _ {whole rest : List Op} {old new : Output} (part : Part whole rest old n
         emitted = all_then part.emitted x;
       }
 
-  -- the rest have room where the whole has
-  pub part_room : Room whole old.at → Room rest new.at
-  part_room room =
-      let lengths = ap length part.split ∙ length-append part.done rest in
+  -- and have room where the whole has
+  pub part_room : (os rest' : List Op) → rest ≡ os ++ rest' → Room whole old.at → Room os new.at
+  part_room os rest' e room =
+      let all = ap length part.split ∙ length-append part.done rest in
+      let others = ap length e ∙ length-append os rest' in
       omega (arith, part.emitted.ends)
 
   -- with nothing left to come all are emitted

@@ -10,7 +10,7 @@ use lib.IntN.{ℤ, pos, negsuc, nat_abs}
 use lib.ListN.{length, length-append}
 use lib.Signed.{mag}
 use mir.Syntax.{w32}
-use mir.Val.{hbits}
+use mir.Val.{hbits, to_z}
 use mir.ValLaws.{to_z-of_z}
 use Rattle.limits.specs.Limits.{ops_per_node}
 use Rattle.operation.specs.Codes.{recip_code}
@@ -22,7 +22,7 @@ use Rattle.emitters.specs.Emitted.{words_end, Emitted, AllEmitted, Room}
 use Rattle.emitters.specs.declared.Output.{Output}
 use Rattle.emitters.proofs.Emitting.{emitted_as}
 use Rattle.emitters.proofs.Powers.{positive_length}
-use Rattle.emitters.proofs.Sign.{signed_size, handed}
+use Rattle.emitters.proofs.Sign.{read_signed, signed_size, handed}
 
 -- where each product has so many operations
 module _ (times : (d s1 s2 : ℕ) → List Op) (each : ℕ) (times-length : (d s1 s2 : ℕ) → length (times d s1 s2) ≡ each) where
@@ -74,9 +74,9 @@ power_few : (m : Option ℕ) (stable : Bool) (w d s : ℕ) → length (power_ops
 power_few m stable w d s = sized_few m stable (signed_of w) d s (signed_size w)
 
 -- read from its word and handed on, it has the same operations
-module _ (m : Option ℕ) (stable : Bool) {p : ℤ} (w d s : ℕ) (small : mag p < 2 ^ hbits w32) (read : p ≡ signed_of w) where
+module _ (m : Option ℕ) (stable : Bool) {p : ℤ} (w d s : ℕ) (small : mag p < 2 ^ hbits w32) (read : p ≡ to_z w32 w) where
   same_ops : power_ops m stable (signed_of w) d s ≡ power_ops m stable (handed p) d s
-  same_ops = ap (λ (p : ℤ). power_ops m stable p d s) (sym (to_z-of_z w32 p (record { sfits = small }) ∙ read))
+  same_ops = ap (λ (p : ℤ). power_ops m stable p d s) (sym (to_z-of_z w32 p (record { sfits = small }) ∙ read ∙ read_signed w))
 
   handed_few : length (power_ops m stable (handed p) d s) ≤ ops_per_node
   handed_few = rw same_ops at (power_few m stable w d s)

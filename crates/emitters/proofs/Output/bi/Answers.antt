@@ -1,8 +1,9 @@
 -- Its words are those of the operation, the code's second.
 use Rattle.std.proofs.Common.{}
+use Rattle.operation.specs.Kinds.{kind_number}
 use Rattle.definitions.specs.Operations.{op_words}
 use Rattle.emitters.proofs.Output.bi.Goals as goal
 
 pub returns : goal.returns
-unfolding op_words
+unfolding kind_number op_words
 returns c = c.put.ensures _ (cc)

@@ -5,11 +5,11 @@ use Rattle.emitters.proofs.PowerLength.{power_room, power_emitted}
 use Rattle.emitters.proofs.Output.one.Goals as goal
 
 pub powi-requires : goal.powi-requires
-powi-requires c = power_room _ _ _ _ _ c.exponent.type_inv c.exponent.ensures _ c.requires
+powi-requires c = power_room _ _ _ _ _ c.from.type_inv c.from.ensures _ c.requires
 
 pub returns-in-Power : goal.returns-in-Power
 returns-in-Power c =
-    let emitted = power_emitted _ _ _ _ _ c.exponent.type_inv c.exponent.ensures c.powi.ensures in
+    let emitted = power_emitted _ _ _ _ _ c.from.type_inv c.from.ensures c.powi.ensures in
     one_emitted _ _ c.in-Power.is (omega arith) emitted
 
 pub returns-in-Function1 : goal.returns-in-Function1

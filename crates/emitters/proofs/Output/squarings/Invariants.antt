@@ -5,8 +5,8 @@ use Rattle.definitions.specs.Emit.{product_ops}
 use Rattle.emitters.proofs.Parts.{Part}
 use Rattle.emitters.proofs.Output.squarings.Given as goal
 
-abbrev pub invariant-loop-k : goal.invariant-loop-k
-invariant-loop-k l =
+abbrev pub invariant-loop : goal.invariant-loop
+invariant-loop l =
     let whole = square_ops (product_ops l.m) l.d l.t in
-    let rest = square_ops (product_ops l.m) l.d (l.t - l._k) in
+    let rest = square_ops (product_ops l.m) l.d (l.t - l.counter) in
     Part whole rest l.fn.self l.self

@@ -5,11 +5,11 @@ use Rattle.emitters.proofs.PowerLength.{power_room, power_emitted}
 use Rattle.emitters.proofs.Output.two.Goals as goal
 
 pub powi_mod-requires : goal.powi_mod-requires
-powi_mod-requires c = power_room _ _ _ _ _ c.exponent.type_inv c.exponent.ensures _ c.requires
+powi_mod-requires c = power_room _ _ _ _ _ c.from.type_inv c.from.ensures _ c.requires
 
 pub returns-in-PowerMod : goal.returns-in-PowerMod
 returns-in-PowerMod c =
-    let emitted = power_emitted _ _ _ _ _ c.exponent.type_inv c.exponent.ensures c.powi_mod.ensures in
+    let emitted = power_emitted _ _ _ _ _ c.from.type_inv c.from.ensures c.powi_mod.ensures in
     two_emitted _ _ _ c.in-PowerMod.is (omega arith) emitted
 
 pub returns-in-Function2 : goal.returns-in-Function2
