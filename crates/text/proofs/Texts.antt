@@ -1,8 +1,9 @@
 -- Texts written one after another. Assumes nothing.
-use Rattle.std.proofs.Common.{◌≡◌, ℕ, suc, ◌+◌, ◌*◌, ◌^◌, ◌<◌, ◌≤◌, List, []}
-use Rattle.std.proofs.Common.{◌∷◌, ◌++◌, length, take, drop, append_assoc, refl, sym, ap, ap₂, ◌∙◌, arith}
-use Rattle.std.proofs.lemmas.List.{length-append}
+use Rattle.std.proofs.Common.{◌≡◌, ℕ, zero, suc, ◌+◌, ◌*◌, ◌^◌, ◌<◌, ◌≤◌, List, []}
+use Rattle.std.proofs.Common.{◌∷◌, ◌++◌, length, get_or, take, drop, append_assoc, refl, sym, ap, ap₂, ◌∙◌, arith}
+use Rattle.std.proofs.lemmas.List.{length-append, get_or-take, get_or-drop}
 use Rattle.std.specs.Fmt.{decimal as std_decimal}
+use Rattle.std.specs.Simd.{first_chunks}
 use Rattle.std.proofs.lemmas.Fmt.{AppendsLastDigit, decimal_from_appends, length-decimal-le}
 use lib.Seq.{sets, sets-eq, length-sets, take_at, drop-drop}
 use lib.ListN.{set}
@@ -13,13 +14,12 @@ use borrow.Rule.Slice.PartMut.{put_mid}
 use Rattle.limits.specs.Limits.{line_limit}
 use Rattle.operation.specs.Names.{bytes}
 use Rattle.definitions.specs.Operations.{Temp, Ret}
-use Rattle.definitions.specs.Text.{decimal_below, decimal, register_text, place_text, answer_text}
+use Rattle.definitions.specs.Text.{decimal_below, decimal, register_text, place_text, newline, answer_text}
 use Rattle.symbol.specs.declared.Loc.{Loc}
-use Rattle.symbol.specs.Place.{word_place, index_of}
 use Rattle.definitions.specs.Answer.{Answer, answer}
 use Rattle.text.specs.declared.Text.{Text}
 use Rattle.text.specs.Text.{HasRoom, Adds}
-use Rattle.text.specs.Line.{counts_text, refused_text, line_at, lines_of, answer_of, WritesAnswer}
+use Rattle.text.specs.Line.{words_text, counts_text, refused_text, line_from, line_at, lines_of, answer_of, WritesAnswer}
 use Rattle.text.proofs.Whole.{answer_text_accepted, answer_text_refused, answer_roomy}
 
 pub sets_after : (us vs ws : List ℕ) (i : ℕ) → sets (sets ws i us) (i + length us) vs ≡ sets ws i (us ++ vs)
@@ -75,6 +75,40 @@ pushed l s ys h e n = record {
   within = omega arith;
 }
 
+-- ---- six words a line
+
+-- run i of words
+run_lem : (k i : ℕ) (ws : List ℕ) → i < k → get_or (first_chunks 6 k ws) i [] ≡ take 6 (drop (6 * i) ws)
+run_lem zero i ws h = absurd (omega arith)
+run_lem (suc k) zero ws h = refl
+run_lem (suc k) (suc i) ws h =
+    let after : 6 * suc i ≡ 6 + 6 * i = omega arith in
+    run_lem k i (drop 6 ws) (omega arith) ∙ ap (take 6) (drop-drop (6 * i) 6 ws ∙ ap (λ (n : ℕ). drop n ws) (sym after))
+
+-- has the text of the words from a place on
+module _ (ws : List ℕ) (at : ℕ) where
+  run_word : (j : ℕ) → j < 6 → get_or (take 6 (drop at ws)) j 0 ≡ get_or ws (at + j) 0
+  run_word j h = get_or-take 6 (drop at ws) j 0 h ∙ get_or-drop at ws j 0
+
+  run_text : words_text (take 6 (drop at ws)) ++ newline ≡ line_from ws at
+  run_text =
+      let first = run_word 0 (omega arith) ∙ ap (λ (n : ℕ). get_or ws n 0) (add-zero at) in
+      rw (
+        first,
+        run_word 1 (omega arith),
+        run_word 2 (omega arith),
+        run_word 3 (omega arith),
+        run_word 4 (omega arith),
+        run_word 5 (omega arith),
+      )
+
+-- which is the line of operation i
+pub run_line : (n k i : ℕ) (ws : List ℕ) {runs : List (List ℕ)} → runs ≡ first_chunks 6 k ws → i < n → i < k
+    → words_text (get_or (take n runs) i []) ++ newline ≡ line_at ws i
+run_line n k i ws {runs} e h l =
+    let run = get_or-take n runs i [] h ∙ ap (λ (rs : List (List ℕ)). get_or rs i []) e ∙ run_lem k i ws l in
+    rw run (run_text ws (6 * i))
+
 -- ---- numbers
 
 appends_digits : AppendsLastDigit decimal_below
@@ -100,10 +134,8 @@ module _ {l x : Text} where
       → Adds l (register_text r) 12 x
   register_number r t v p = rw (ne_eqb r Temp t, ne_eqb r Ret v) p
 
-  pub place_lem : (w : ℕ) (s : List ℕ) {p : Loc} {i k : ℕ} → p ≡ word_place w → i ≡ index_of p
-      → place_text p ≡ s ++ decimal (index_of p)
-      → Adds l (s ++ decimal i) k x → Adds l (place_text (word_place w)) k x
-  place_lem w s e n t h = rw (← e, t, ← n) h
+  pub place_text_lem : {p q : Loc} {k : ℕ} → p ≡ q → Adds l (place_text q) k x → Adds l (place_text p) k x
+  place_text_lem e h = rw e h
 
 -- ---- the text of an answer
 

@@ -6,16 +6,12 @@
 ghost use Rattle.std.specs.Prelude.{◌≡◌, ◌++◌, ◌+◌, ◌*◌, ◌≤◌, length};
 ghost use Rattle.limits.specs.Limits.{line_limit};
 ghost use Rattle.symbol.specs.Place.{word_place, index_of};
-ghost use Rattle.operation.specs.Names.{unary_name, binary_name};
+ghost use Rattle.operation.specs.Names.{binary_name};
 ghost use Rattle.definitions.specs.Text.{decimal, register_text, place_text, constant_text};
 ghost use Rattle.text.specs.Line.{words_text, lines_of, counts_text, refused_text, answer_of, WritesAnswer};
 
+use operation::{Kind, RET, TEMP};
 use symbol::Loc;
-
-// The registers that have letters.
-const TEMP: u32 = 254;
-
-const RET: u32 = 255;
 
 // The text so far: the first `len` of the bytes that are lent, and no String, since there is no heap.
 #[derive(Drop)]
@@ -83,7 +79,7 @@ impl Text<'_> {
 
     // The start of a line with a binary code: kind, name, destination and first source.
     #[tactic(auto, using(operation::proofs::Names::binary_name_short))]
-    fn math(&mut self, kind: &str, number: u8, d: u32, s: u32) -> &mut Self
+    fn math(&mut self, kind: &str, number: u32, d: u32, s: u32) -> &mut Self
         requires { HasRoom self.old 46 × (length kind.now ≤ 10) }
         ensures same { result.ghost_name ≡ self.entry.ghost_name }
         ensures adds { Adds self.old (kind.now ++ binary_name number ++ register_text d ++ register_text s) 46 result.now }
@@ -102,29 +98,28 @@ impl Text<'_> {
         ensures adds { Adds self.old (words_text words) 58 result.now }
     {
         let [kind, code, d, s1, s2, place] = words;
-        let number = byte_of(code);
-        match kind {
-            1 => self.push("const").register(d).constant(place),
-            2 => self.push("load").register(d).place(place),
-            3 => self.push("save").register(s1).place(place),
-            4 => self.push("move").register(d).register(s1),
-            5 => self.push("swap").register(d).register(s1),
-            6 => self
+        match Kind::from(kind) {
+            Kind::LoadConst => self.push("const").register(d).constant(place),
+            Kind::LoadVar => self.push("load").register(d).place(place),
+            Kind::Save => self.push("save").register(s1).place(place),
+            Kind::Mov => self.push("move").register(d).register(s1),
+            Kind::Xchg => self.push("swap").register(d).register(s1),
+            Kind::Uni => self
                 .push("uni ")
-                .push(operation::unary_name(number))
+                .push(operation::unary_name(code))
                 .register(d)
                 .register(s1),
-            7 => self.math("bi ", number, d, s1).register(s2),
-            8 => self
+            Kind::Bi => self.math("bi ", code, d, s1).register(s2),
+            Kind::IfElse => self
                 .push("ifelse")
                 .register(d)
                 .register(s1)
                 .register(s2)
                 .place(place),
-            9 => self.math("loadmath ", number, d, s1).place(place),
-            10 => self.math("constmath ", number, d, s1).constant(place),
-            11 => self.push("call f").decimal(code).push(" ").decimal(s1),
-            _ => self.push("need ").decimal(code),
+            Kind::LoadMath => self.math("loadmath ", code, d, s1).place(place),
+            Kind::LoadConstMath => self.math("constmath ", code, d, s1).constant(place),
+            Kind::Call => self.push("call f").decimal(code).push(" ").decimal(s1),
+            Kind::Need => self.push("need ").decimal(code),
         }
     }
 
@@ -135,29 +130,12 @@ impl Text<'_> {
         ensures same { result.ghost_name ≡ self.entry.ghost_name }
         ensures adds { Adds self.old (lines_of out.now n) (line_limit * n) result.now }
     {
-        for i in 0..n {
-            let at = 6 * i;
-            self.op([
-                out[at],
-                out[at + 1],
-                out[at + 2],
-                out[at + 3],
-                out[at + 4],
-                out[at + 5],
-            ])
-            .push("\n");
+        let (ops, _) = out.as_chunks::<6>();
+        for words in &ops[..n] {
+            self.op(*words).push("\n");
         }
         self
     }
-}
-
-// A code's number; 0, which no code has, for a word that is no byte.
-#[tactic(auto, using(operation::proofs::Names::unary_name_past, operation::proofs::Names::binary_name_past))]
-fn byte_of(code: u32) -> u8
-    ensures unary { unary_name result ≡ unary_name code }
-    ensures binary { binary_name result ≡ binary_name code }
-{
-    u8::try_from(code).unwrap_or(0)
 }
 
 // A space and the letter of a place's kind.

@@ -1,111 +1,96 @@
 -- An arm writes what its kind's text is made of.
-use Rattle.std.proofs.Common.{◌≤◌, get_or, length, arith, ne_eqb}
+use Rattle.std.proofs.Common.{◌≤◌, get_or, length, arith}
 use Rattle.operation.specs.Names.{bytes}
-use Rattle.definitions.specs.Operations.{words_op}
 use Rattle.definitions.specs.Text.{op_text}
-use Rattle.text.proofs.Texts.{adds_then, adds_within, adds_as}
+use Rattle.text.proofs.Texts.{adds_then, adds_as}
+use Rattle.text.proofs.ByKind.{op_adds}
 use Rattle.operation.proofs.Names.{unary_name_short}
 use Rattle.text.proofs.Text.op.Goals as goal
 
 -- const
-pub returns-in-1-clause-adds : goal.returns-in-1-clause-adds
-unfolding bytes op_text words_op
-returns-in-1-clause-adds c =
+pub returns-in-LoadConst-clause-adds : goal.returns-in-LoadConst-clause-adds
+unfolding bytes op_text
+returns-in-LoadConst-clause-adds c =
     let text = adds_then (adds_then c.push.ensures.adds c.register.ensures.adds) c.constant.ensures.adds in
-    rw c.in-1.is (adds_within 58 (omega arith) text)
+    op_adds c.args.words c.from.ensures c.in-LoadConst.is (omega arith) text
 
 -- load
-pub returns-in-2-clause-adds : goal.returns-in-2-clause-adds
-unfolding bytes op_text words_op
-returns-in-2-clause-adds c =
-    let text = adds_then (adds_then c.push-in-2.ensures.adds c.register-in-2.ensures.adds) c.place.ensures.adds in
-    rw c.in-2.is (adds_within 58 (omega arith) text)
+pub returns-in-LoadVar-clause-adds : goal.returns-in-LoadVar-clause-adds
+unfolding bytes op_text
+returns-in-LoadVar-clause-adds c =
+    let text = adds_then (adds_then c.push-in-LoadVar.ensures.adds c.register-in-LoadVar.ensures.adds) c.place.ensures.adds in
+    op_adds c.args.words c.from.ensures c.in-LoadVar.is (omega arith) text
 
 -- save
-pub returns-in-3-clause-adds : goal.returns-in-3-clause-adds
-unfolding bytes op_text words_op
-returns-in-3-clause-adds c =
-    let text = adds_then (adds_then c.push-in-3.ensures.adds c.register-in-3.ensures.adds) c.place-in-3.ensures.adds in
-    rw c.in-3.is (adds_within 58 (omega arith) text)
+pub returns-in-Save-clause-adds : goal.returns-in-Save-clause-adds
+unfolding bytes op_text
+returns-in-Save-clause-adds c =
+    let text = adds_then (adds_then c.push-in-Save.ensures.adds c.register-in-Save.ensures.adds) c.place-in-Save.ensures.adds in
+    op_adds c.args.words c.from.ensures c.in-Save.is (omega arith) text
 
 -- move
-pub returns-in-4-clause-adds : goal.returns-in-4-clause-adds
-unfolding bytes op_text words_op
-returns-in-4-clause-adds c =
-    let text = adds_then (adds_then c.push-in-4.ensures.adds c.register-in-4.ensures.adds) c.register-in-4-2.ensures.adds in
-    rw c.in-4.is (adds_within 58 (omega arith) text)
+pub returns-in-Mov-clause-adds : goal.returns-in-Mov-clause-adds
+unfolding bytes op_text
+returns-in-Mov-clause-adds c =
+    let text = adds_then (adds_then c.push-in-Mov.ensures.adds c.register-in-Mov.ensures.adds) c.register-in-Mov-2.ensures.adds in
+    op_adds c.args.words c.from.ensures c.in-Mov.is (omega arith) text
 
 -- swap
-pub returns-in-5-clause-adds : goal.returns-in-5-clause-adds
-unfolding bytes op_text words_op
-returns-in-5-clause-adds c =
-    let text = adds_then (adds_then c.push-in-5.ensures.adds c.register-in-5.ensures.adds) c.register-in-5-2.ensures.adds in
-    rw c.in-5.is (adds_within 58 (omega arith) text)
+pub returns-in-Xchg-clause-adds : goal.returns-in-Xchg-clause-adds
+unfolding bytes op_text
+returns-in-Xchg-clause-adds c =
+    let text = adds_then (adds_then c.push-in-Xchg.ensures.adds c.register-in-Xchg.ensures.adds) c.register-in-Xchg-2.ensures.adds in
+    op_adds c.args.words c.from.ensures c.in-Xchg.is (omega arith) text
 
 -- uni
-pub returns-in-6-clause-adds : goal.returns-in-6-clause-adds
-unfolding bytes op_text words_op
-returns-in-6-clause-adds c =
-    let name = rw c.byte_of-number.ensures.unary at c.unary_name.ensures in
-    let short : length c.unary_name.result.now ≤ 12 = rw c.unary_name.ensures (unary_name_short c.byte_of-number.result) in
-    let named = adds_then c.push-in-6.ensures.adds (adds_as name short c.push-in-6-2.ensures.adds) in
-    let text = adds_then (adds_then named c.register-in-6.ensures.adds) c.register-in-6-2.ensures.adds in
-    rw c.in-6.is (adds_within 58 (omega arith) text)
+pub returns-in-Uni-clause-adds : goal.returns-in-Uni-clause-adds
+unfolding bytes op_text
+returns-in-Uni-clause-adds c =
+    let short : length c.unary_name.result.now ≤ 12 = rw c.unary_name.ensures (unary_name_short (get_or c.args.words 1 0)) in
+    let named = adds_then c.push-in-Uni.ensures.adds (adds_as c.unary_name.ensures short c.push-in-Uni-2.ensures.adds) in
+    let text = adds_then (adds_then named c.register-in-Uni.ensures.adds) c.register-in-Uni-2.ensures.adds in
+    op_adds c.args.words c.from.ensures c.in-Uni.is (omega arith) text
 
 -- bi
-pub returns-in-7-clause-adds : goal.returns-in-7-clause-adds
-unfolding bytes op_text words_op
-returns-in-7-clause-adds c =
-    let text = adds_then (rw c.byte_of-number.ensures.binary at c.math.ensures.adds) c.register-in-7.ensures.adds in
-    rw c.in-7.is (adds_within 58 (omega arith) text)
+pub returns-in-Bi-clause-adds : goal.returns-in-Bi-clause-adds
+unfolding bytes op_text
+returns-in-Bi-clause-adds c =
+    let text = adds_then c.math.ensures.adds c.register-in-Bi.ensures.adds in
+    op_adds c.args.words c.from.ensures c.in-Bi.is (omega arith) text
 
 -- ifelse
-pub returns-in-8-clause-adds : goal.returns-in-8-clause-adds
-unfolding bytes op_text words_op
-returns-in-8-clause-adds c =
-    let first = adds_then (adds_then c.push-in-8.ensures.adds c.register-in-8.ensures.adds) c.register-in-8-2.ensures.adds in
-    let text = adds_then (adds_then first c.register-in-8-3.ensures.adds) c.place-in-8.ensures.adds in
-    rw c.in-8.is (adds_within 58 (omega arith) text)
+pub returns-in-IfElse-clause-adds : goal.returns-in-IfElse-clause-adds
+unfolding bytes op_text
+returns-in-IfElse-clause-adds c =
+    let first = adds_then (adds_then c.push-in-IfElse.ensures.adds c.register-in-IfElse.ensures.adds) c.register-in-IfElse-2.ensures.adds in
+    let text = adds_then (adds_then first c.register-in-IfElse-3.ensures.adds) c.place-in-IfElse.ensures.adds in
+    op_adds c.args.words c.from.ensures c.in-IfElse.is (omega arith) text
 
 -- loadmath
-pub returns-in-9-clause-adds : goal.returns-in-9-clause-adds
-unfolding bytes op_text words_op
-returns-in-9-clause-adds c =
-    let text = adds_then (rw c.byte_of-number.ensures.binary at c.math-in-9.ensures.adds) c.place-in-9.ensures.adds in
-    rw c.in-9.is (adds_within 58 (omega arith) text)
+pub returns-in-LoadMath-clause-adds : goal.returns-in-LoadMath-clause-adds
+unfolding bytes op_text
+returns-in-LoadMath-clause-adds c =
+    let text = adds_then c.math-in-LoadMath.ensures.adds c.place-in-LoadMath.ensures.adds in
+    op_adds c.args.words c.from.ensures c.in-LoadMath.is (omega arith) text
 
 -- constmath
-pub returns-in-10-clause-adds : goal.returns-in-10-clause-adds
-unfolding bytes op_text words_op
-returns-in-10-clause-adds c =
-    let text = adds_then (rw c.byte_of-number.ensures.binary at c.math-in-10.ensures.adds) c.constant-in-10.ensures.adds in
-    rw c.in-10.is (adds_within 58 (omega arith) text)
+pub returns-in-LoadConstMath-clause-adds : goal.returns-in-LoadConstMath-clause-adds
+unfolding bytes op_text
+returns-in-LoadConstMath-clause-adds c =
+    let text = adds_then c.math-in-LoadConstMath.ensures.adds c.constant-in-LoadConstMath.ensures.adds in
+    op_adds c.args.words c.from.ensures c.in-LoadConstMath.is (omega arith) text
 
 -- call
-pub returns-in-11-clause-adds : goal.returns-in-11-clause-adds
-unfolding bytes op_text words_op
-returns-in-11-clause-adds c =
-    let function = adds_then (adds_then c.push-in-11.ensures.adds c.decimal.ensures.adds) c.push-in-11-2.ensures.adds in
-    let text = adds_then function c.decimal-in-11.ensures.adds in
-    rw c.in-11.is (adds_within 58 (omega arith) text)
+pub returns-in-Call-clause-adds : goal.returns-in-Call-clause-adds
+unfolding bytes op_text
+returns-in-Call-clause-adds c =
+    let function = adds_then (adds_then c.push-in-Call.ensures.adds c.decimal.ensures.adds) c.push-in-Call-2.ensures.adds in
+    let text = adds_then function c.decimal-in-Call.ensures.adds in
+    op_adds c.args.words c.from.ensures c.in-Call.is (omega arith) text
 
 -- need
-pub returns-in_default-clause-adds : goal.returns-in_default-clause-adds
-unfolding bytes op_text words_op
-returns-in_default-clause-adds c =
-    let kind = get_or c.args.words 0 0 in
-    let text = adds_then c.push-in_default.ensures.adds c.decimal-in_default.ensures.adds in
-    simp (
-      ne_eqb kind 1 (λ e. omega arith),
-      ne_eqb kind 2 (λ e. omega arith),
-      ne_eqb kind 3 (λ e. omega arith),
-      ne_eqb kind 4 (λ e. omega arith),
-      ne_eqb kind 5 (λ e. omega arith),
-      ne_eqb kind 6 (λ e. omega arith),
-      ne_eqb kind 7 (λ e. omega arith),
-      ne_eqb kind 8 (λ e. omega arith),
-      ne_eqb kind 9 (λ e. omega arith),
-      ne_eqb kind 10 (λ e. omega arith),
-      ne_eqb kind 11 (λ e. omega arith),
-    )
-    (adds_within 58 (omega arith) text)
+pub returns-in-Need-clause-adds : goal.returns-in-Need-clause-adds
+unfolding bytes op_text
+returns-in-Need-clause-adds c =
+    let text = adds_then c.push-in-Need.ensures.adds c.decimal-in-Need.ensures.adds in
+    op_adds c.args.words c.from.ensures c.in-Need.is (omega arith) text
