@@ -31,12 +31,15 @@ module _ {whole rest : List Op} {old new : Output} (part : Part whole rest old n
         emitted = all_then part.emitted x;
       }
 
-  -- and have room where the whole has
-  pub part_room : (os rest' : List Op) → rest ≡ os ++ rest' → Room whole old.at → Room os new.at
-  part_room os rest' e room =
-      let all = ap length part.split ∙ length-append part.done rest in
-      let others = ap length e ∙ length-append os rest' in
+  -- the rest have room where the whole has
+  pub part_room : Room whole old.at → Room rest new.at
+  part_room room =
+      let lengths = ap length part.split ∙ length-append part.done rest in
       omega (arith, part.emitted.ends)
+
+  -- and so have the next of them
+  pub part_next : (os rest' : List Op) → rest ≡ os ++ rest' → Room whole old.at → Room os new.at
+  part_next os rest' e room = omega (arith, part_room room, ap length e, length-append os rest')
 
   -- with nothing left to come all are emitted
   pub part_whole : rest ≡ [] → AllEmitted whole old new
