@@ -45,6 +45,17 @@ digits_length (suc k) (suc n) h =
 pub half_first : (n t : ℕ) → n / 2 ^ suc t ≡ n / 2 / 2 ^ t
 half_first n t = ap (λ (x : ℕ). n / x) (pow-succ' 2 t) ∙ sym (div-div-eq-div-mul n 2 (2 ^ t))
 
+-- a number above 0 has fewer trailing zeros than digits
+pub trailing_below : (k n : ℕ) → 0 < n → n < 2 ^ k → count_trailing_zeros k n < k
+unfolding count_trailing_zeros
+trailing_below zero n p h = absurd (omega arith)
+trailing_below (suc k) n p h = go (n % 2) refl (trailing_below k (n / 2))
+  where
+    go : (r : ℕ) → n % 2 ≡ r → (0 < n / 2 → n / 2 < 2 ^ k → count_trailing_zeros k (n / 2) < k) →
+        under r (count_trailing_zeros k (n / 2)) < suc k
+    go zero e ih = let double : 2 ^ suc k ≡ 2 ^ k * 2 = pow-suc 2 k in omega (arith, ih (omega arith) (omega arith))
+    go (suc r) e ih = omega arith
+
 -- the digits above the lowest that is set, that one and the zeros under it are no more than all
 higher_few : (j k n : ℕ) → 0 < n → n < 2 ^ suc k → n < 2 ^ j →
     length (digits (n / 2 ^ count_trailing_zeros j n / 2)) + count_trailing_zeros j n ≤ k
