@@ -11,10 +11,10 @@ use node::Node;
 #[cycle(mix_seen_mix_view)]
 #[tactic(auto, using(compare::proofs::MarksDecide::node_low, crate::proofs::Mixing::marked_mixed))]
 pub fn mix_view(trees: &Trees, i: u32) -> u64
-    requires { Comparable trees.now.words.now i × MarksLow trees.now.marks.now }
-    ensures { ViewMix trees.now.words.now trees.now.marks.now i result }
+    requires { Comparable trees.now.nodes.words.now i × MarksLow trees.now.marks.now.words }
+    ensures { ViewMix trees.now.nodes.words.now trees.now.marks.now.words i result }
 {
-    match trees.marks[i as usize].checked_sub(1) {
+    match trees.marks.get(i) {
         Some(temporary) => mix::mix_temporary(temporary),
         None => mix_seen(trees, i),
     }
@@ -24,10 +24,10 @@ pub fn mix_view(trees: &Trees, i: u32) -> u64
 #[cycle(mix_seen_mix_view)]
 #[tactic(auto, using(compare::proofs::MarksDecide::node_low))]
 pub fn mix_seen(trees: &Trees, i: u32) -> u64
-    requires { Comparable trees.now.words.now i × MarksLow trees.now.marks.now }
-    ensures { SeenMix trees.now.words.now trees.now.marks.now i result }
+    requires { Comparable trees.now.nodes.words.now i × MarksLow trees.now.marks.now.words }
+    ensures { SeenMix trees.now.nodes.words.now trees.now.marks.now.words i result }
 {
-    let node = node::unpack(trees.words, i);
+    let node = node::unpack(trees.nodes.words, i);
     let s = mix::seed_of(node);
     match node {
         Node::Const(_) | Node::Var(_) => mix::mix_leaf(s),
