@@ -1,7 +1,8 @@
 -- A tree begins with the node read at its tag; what stands below it was read by the turns.
 use Rattle.std.proofs.Common.{inl, inr}
 use Rattle.refusal.proofs.Passing.{passed_on}
-use Rattle.trees.proofs.Trees.{node_refused, const, var, leaf_read, under1_refused, under1_read}
+use Rattle.node.specs.Sides.{const, var}
+use Rattle.trees.proofs.Trees.{node_refused, leaf_read, under1_refused, under1_read}
 use Rattle.trees.proofs.Trees.{left_refused, right_refused, under2_read, tree_was_got}
 use Rattle.trees.proofs.Parser.+read_tree.Goals as goal
 
