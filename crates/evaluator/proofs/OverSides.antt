@@ -2,9 +2,9 @@
 use mathlib.Core.Path.{◌≡◌, refl, sym, ap, ap₂, ◌∙◌}
 use mathlib.Core.Bool.{Bool}
 use mathlib.Core.List.{List, ◌++◌}
-use Prim.Native.Nat.{ℕ, ◌+◌, ◌*◌, ◌≤◌, compare, Ordering}
+use Prim.Native.Nat.{ℕ, ◌+◌, ◌*◌, ◌<◌, ◌≤◌, compare, Ordering}
 use native.Mathlib.Omega.{arith}
-use Rattle.limits.specs.Limits.{ops_per_node}
+use Rattle.limits.specs.Limits.{depth_limit, ops_per_node}
 use Rattle.header.specs.Settings.{temporary_of}
 use Rattle.operation.specs.declared.Two.{Two}
 use Rattle.operation.specs.declared.BinaryCode.{BinaryCode}
@@ -13,14 +13,11 @@ use Rattle.definitions.specs.Tree.{Tree, two, join, ershov}
 use Rattle.definitions.specs.Operations.{Op}
 use Rattle.definitions.specs.Emit.{last, two_ops, leaf_of, plan, planned, evaluate, left_base, sides_by}
 use Rattle.definitions.specs.Emit as Emit
-use Rattle.node.specs.Views.{view}
-use Rattle.ershov.specs.Number.{Numbered, Known, view_number}
-use Rattle.ershov.proofs.Numbers.{numbered_read}
+use Rattle.ershov.specs.Shown.{ViewNumbered}
 use Rattle.emitters.specs.declared.Output.{Output}
 use Rattle.emitters.specs.Emitted.{Emitted}
 use Rattle.emitters.proofs.Emitting.{emitted_then, emitted_as}
 use Rattle.evaluator.specs.declared.Evaluator.{Evaluator}
-use Rattle.evaluator.specs.declared.Target.{Target}
 use Rattle.evaluator.specs.declared.Over.{Over}
 use Rattle.evaluator.specs.declared.Turns.{Turns}
 use Rattle.evaluator.specs.declared.Operand.{Operand}
@@ -56,126 +53,144 @@ module _ (fused : Bool) (b : ℕ) (o : Two) (l r : Tree) where
   planned_left c j (Index i) = refl
 
 -- a side from registers, and the fused operation after it
-module _ (e : Evaluator) (s : Over) (to : Target) where
+module _ (e : Evaluator) (s : Over) (base : ℕ) where
   two_fused : (j c : ℕ) (q : Operand) (i v : ℕ) {n : ℕ} {old between new : Output} →
-      evaluate e.header.fused to.base (two s.o (view_tree e s.left) (view_tree e s.right))
-      ≡ evaluate e.header.fused to.base (view_tree e i) ++ fused_ops q c (last to.base j) (last to.base (ershov (view_tree e i))) →
+      evaluate e.header.fused base (two s.o (view_tree e s.left) (view_tree e s.right))
+      ≡ evaluate e.header.fused base (view_tree e i) ++ fused_ops q c (last base j) (last base (ershov (view_tree e i))) →
       n ≡ ershov (view_tree e i) → v ≤ span_of e s.left + span_of e s.right →
-      Emitted (evaluate e.header.fused to.base (view_tree e i)) (ops_per_node * v) old between →
-      Emitted (fused_ops q c (last to.base j) (last to.base n)) 1 between new → TwoEmitted e s to old new
+      Emitted (evaluate e.header.fused base (view_tree e i)) (ops_per_node * v) old between →
+      Emitted (fused_ops q c (last base j) (last base n)) 1 between new → TwoEmitted e s base old new
   two_fused j c q i v is f l first over =
       emitted_as (omega arith) is
       (emitted_then {n = 1} {k = ops_per_node * (span_of e s.left + span_of e s.right + 1)} (omega arith) first
-      (emitted_as (omega arith) (ap (λ (z : ℕ). fused_ops q c (last to.base j) (last to.base z)) (sym f)) over))
+      (emitted_as (omega arith) (ap (λ (z : ℕ). fused_ops q c (last base j) (last base z)) (sym f)) over))
 
--- ---- sides that are ready, and whose numbers were read as x and y
+-- ---- sides whose numbers are x and y
 
-module _ {e : Evaluator} {s : Over} {to : Target} {at x y : ℕ} (ready : SidesReady e s to at)
-    (read-x : x ≡ view_number e.marks.now e.numbers.now s.left)
-    (read-y : y ≡ view_number e.marks.now e.numbers.now s.right) where
+module _ (e : Evaluator) (s : Over) (base : ℕ) {x y : ℕ} (left : ViewNumbered e.trees s.left x)
+    (right : ViewNumbered e.trees s.right y) where
   abbrev fused : Bool
   fused = e.header.fused
 
-  left-numbered : Numbered to.depth (λ temporary. view temporary e.nodes.now e.marks.now s.left) x
-  left-numbered = numbered_read ready.left.viewed read-x
-
-  right-numbered : Numbered to.depth (λ temporary. view temporary e.nodes.now e.marks.now s.right) y
-  right-numbered = numbered_read ready.right.viewed read-y
-
   left-number : x ≡ ershov (view_tree e s.left)
-  left-number = left-numbered.number (temporary_of e.header)
+  left-number = left.number (temporary_of e.header)
 
   right-number : y ≡ ershov (view_tree e s.right)
-  right-number = right-numbered.number (temporary_of e.header)
+  right-number = right.number (temporary_of e.header)
 
   -- ---- by their plan, joined as j
 
   module _ {j : ℕ} {p : Plan} (joined : j ≡ join x y) (plans : plan_as p ≡ plan fused s.o (leaf_at e s.left) (leaf_at e s.right))
     where
-      two_as : {m : Plan} → p ≡ m → evaluate fused to.base (two s.o (view_tree e s.left) (view_tree e s.right))
-          ≡ plan_ops fused to.base s.o (view_tree e s.left) (view_tree e s.right) (plan_as m) j
-      two_as is = two_planned fused to.base s.o _ _ left-number right-number joined (sym (ap plan_as is) ∙ plans)
+      two_as : {m : Plan} → p ≡ m → evaluate fused base (two s.o (view_tree e s.left) (view_tree e s.right))
+          ≡ plan_ops fused base s.o (view_tree e s.left) (view_tree e s.right) (plan_as m) j
+      two_as is = two_planned fused base s.o _ _ left-number right-number joined (sym (ap plan_as is) ∙ plans)
 
       module _ {old between new : Output} where
-        pub two_in_registers : {a : Allocation} → p ≡ InRegisters → SidesAllocated e s to a old between →
-            Emitted (two_ops s.o (last to.base j) a.left a.right) ops_per_node between new → TwoEmitted e s to old new
+        pub two_in_registers : {a : Allocation} → p ≡ InRegisters → SidesAllocated e s base a old between →
+            Emitted (two_ops s.o (last base j) a.left a.right) ops_per_node between new → TwoEmitted e s base old new
         two_in_registers is sides over =
             emitted_as (omega arith) (two_as is)
             (emitted_then {n = ops_per_node} {k = ops_per_node * (span_of e s.left + span_of e s.right + 1)} (omega arith)
             sides.emitted
-            (emitted_as (omega arith) (ap₂ (two_ops s.o (last to.base j)) (sym sides.lefts) (sym sides.rights)) over))
+            (emitted_as (omega arith) (ap₂ (two_ops s.o (last base j)) (sym sides.lefts) (sym sides.rights)) over))
 
-        pub two_right_fused : {c : BinaryCode} {q : Operand} → p ≡ Right c q → ViewEmitted e s.left to old between →
-            Emitted (fused_ops q (binary_number c) (last to.base j) (last to.base x)) 1 between new → TwoEmitted e s to old new
+        pub two_right_fused : {c : BinaryCode} {q : Operand} → p ≡ Right c q → ViewEmitted e s.left base old between →
+            Emitted (fused_ops q (binary_number c) (last base j) (last base x)) 1 between new → TwoEmitted e s base old new
         two_right_fused {c} {q} is =
-            two_fused e s to j (binary_number c) q s.left (span_of e s.left)
-            (two_as is ∙ planned_right fused to.base s.o _ _ (binary_number c) j q) left-number (omega arith)
+            two_fused e s base j (binary_number c) q s.left (span_of e s.left)
+            (two_as is ∙ planned_right fused base s.o _ _ (binary_number c) j q) left-number (omega arith)
 
-        pub two_left_fused : {c : BinaryCode} {q : Operand} → p ≡ Left c q → ViewEmitted e s.right to old between →
-            Emitted (fused_ops q (binary_number c) (last to.base j) (last to.base y)) 1 between new → TwoEmitted e s to old new
+        pub two_left_fused : {c : BinaryCode} {q : Operand} → p ≡ Left c q → ViewEmitted e s.right base old between →
+            Emitted (fused_ops q (binary_number c) (last base j) (last base y)) 1 between new → TwoEmitted e s base old new
         two_left_fused {c} {q} is =
-            two_fused e s to j (binary_number c) q s.right (span_of e s.right)
-            (two_as is ∙ planned_left fused to.base s.o _ _ (binary_number c) j q) right-number (omega arith)
+            two_fused e s base j (binary_number c) q s.right (span_of e s.right)
+            (two_as is ∙ planned_left fused base s.o _ _ (binary_number c) j q) right-number (omega arith)
 
 -- ---- the sides in their order
 
-module _ (e : Evaluator) (s : Over) (to : Target) where
-  -- the target of the side that comes first
-  abbrev first_to : Turns → Target
-  first_to r = record { depth = to.depth; base = r.base }
+module _ (e : Evaluator) (s : Over) (base : ℕ) where
+  -- turns whose sides are nodes of the table, none before the left one, each at a base that is low enough
+  pub record InTurn (o : Ordering) (r : Turns) : Type 0 where
+    pub from : s.left ≤ r.first
+    pub inside : r.first < e.trees.nodes.count
+    pub low : r.base ≤ depth_limit + r.first
+    pub next : s.left ≤ r.second
+    pub next_inside : r.second < e.trees.nodes.count
+    pub based : r.base ≡ left_base o base
+    pub spans : span_of e r.first + span_of e r.second ≡ span_of e s.left + span_of e s.right
 
-  record InTurn (o : Ordering) (r : Turns) : Type 0 where
-    first : Known to.depth e.nodes.now e.marks.now e.numbers.now r.first
-    second : Known to.depth e.nodes.now e.marks.now e.numbers.now r.second
-    based : r.base ≡ left_base o to.base
-    low : r.base ≤ to.base + 1
-    spans : span_of e r.first + span_of e r.second ≡ span_of e s.left + span_of e s.right
-
-  in_turn : {at : ℕ} → SidesReady e s to at → (o : Ordering) → InTurn o (turns_by o s to.base)
-  in_turn k Ordering.lt = record { first = k.right; second = k.left; based = refl; low = omega arith; spans = omega arith }
-  in_turn k Ordering.eq = record { first = k.left; second = k.right; based = refl; low = omega arith; spans = omega arith }
-  in_turn k Ordering.gt = record { first = k.left; second = k.right; based = refl; low = omega arith; spans = omega arith }
+  in_turn : {at : ℕ} → SidesReady e s base at → (o : Ordering) → InTurn o (turns_by o s base)
+  in_turn k Ordering.lt =
+      record {
+        from = omega (arith, k.order);
+        inside = k.inside;
+        low = omega (arith, k.order, k.low);
+        next = omega arith;
+        next_inside = omega (arith, k.order, k.inside);
+        based = refl;
+        spans = omega arith;
+      }
+  in_turn k Ordering.eq =
+      record {
+        from = omega arith;
+        inside = omega (arith, k.order, k.inside);
+        low = omega (arith, k.low);
+        next = omega (arith, k.order);
+        next_inside = k.inside;
+        based = refl;
+        spans = refl;
+      }
+  in_turn k Ordering.gt =
+      record {
+        from = omega arith;
+        inside = omega (arith, k.order, k.inside);
+        low = omega (arith, k.low);
+        next = omega (arith, k.order);
+        next_inside = k.inside;
+        based = refl;
+        spans = refl;
+      }
 
   emitted_in_turn : {old between new : Output} (o : Ordering) →
-      ViewEmitted e (turns_by o s to.base).first (first_to (turns_by o s to.base)) old between →
-      ViewEmitted e (turns_by o s to.base).second to between new →
-      Emitted (sides_by o to.base (λ k. evaluate e.header.fused k (view_tree e s.left))
+      ViewEmitted e (turns_by o s base).first (turns_by o s base).base old between →
+      ViewEmitted e (turns_by o s base).second base between new →
+      Emitted (sides_by o base (λ k. evaluate e.header.fused k (view_tree e s.left))
       (λ k. evaluate e.header.fused k (view_tree e s.right)))
       (ops_per_node * (span_of e s.left + span_of e s.right)) old new
   emitted_in_turn Ordering.lt x y = emitted_then (omega arith) x y
   emitted_in_turn Ordering.eq x y = emitted_then (omega arith) x y
   emitted_in_turn Ordering.gt x y = emitted_then (omega arith) x y
 
-module _ {e : Evaluator} {s : Over} {to : Target} {at : ℕ} (x y : ℕ) {r : Turns} (ready : SidesReady e s to at)
-    (turns : r ≡ turns_by (compare x y) s to.base) where
-  turns_taken : InTurn e s to (compare x y) r
-  turns_taken = rw turns (in_turn e s to ready (compare x y))
+module _ {e : Evaluator} {s : Over} {base at : ℕ} (x y : ℕ) {r : Turns} (ready : SidesReady e s base at)
+    (turns : r ≡ turns_by (compare x y) s base) where
+  pub turns_taken : InTurn e s base (compare x y) r
+  turns_taken = rw turns (in_turn e s base ready (compare x y))
 
-  pub first_ready : NodeReady e r.first (first_to e s to r) at
+  pub first_ready : NodeReady e r.first r.base at
   first_ready =
       let t = turns_taken in
-      record { known = t.first; low = omega (arith, t.low, ready.low); counted = omega (arith, t.spans, ready.counted) }
+      record { inside = t.inside; low = t.low; counted = omega (arith, t.spans, ready.counted) }
 
-  module _ {old between : Output} (start : old.at ≡ at) (first : ViewEmitted e r.first (first_to e s to r) old between) where
-    pub second_ready : NodeReady e r.second to between.at
-    second_ready =
-        let t = turns_taken in
-        record {
-          known = t.second;
-          low = omega (arith, ready.low);
-          counted = omega (arith, t.spans, ready.counted, first.ends, first.few);
-        }
-
-  pub sides_allocated : {old between new : Output} → x ≡ view_number e.marks.now e.numbers.now s.left →
-      y ≡ view_number e.marks.now e.numbers.now s.right → ViewEmitted e r.first (first_to e s to r) old between →
-      ViewEmitted e r.second to between new →
-      SidesAllocated e s to (record { left = last r.base x; right = last to.base y }) old new
-  sides_allocated read-x read-y first second =
-      let left = left-number ready read-x read-y in
-      let right = right-number ready read-x read-y in
-      let same = ap₂ compare left right in
+  pub second_ready : {old between : Output} → old.at ≡ at → ViewEmitted e r.first r.base old between →
+      NodeReady e r.second base between.at
+  second_ready start first =
+      let t = turns_taken in
       record {
-        lefts = ap₂ last (turns_taken.based ∙ ap (λ (o : Ordering). left_base o to.base) same) left;
-        rights = ap (last to.base) right;
-        emitted = rw (← same) (emitted_in_turn e s to (compare x y) (rw turns at first) (rw turns at second));
+        inside = t.next_inside;
+        low = omega (arith, t.next, ready.low);
+        counted = omega (arith, start, t.spans, ready.counted, first.ends, first.few);
+      }
+
+  pub sides_allocated : {old between new : Output} → ViewNumbered e.trees s.left x → ViewNumbered e.trees s.right y →
+      ViewEmitted e r.first r.base old between → ViewEmitted e r.second base between new →
+      SidesAllocated e s base (record { left = last r.base x; right = last base y }) old new
+  sides_allocated left right first second =
+      let left-is = left-number e s base left right in
+      let right-is = right-number e s base left right in
+      let same = ap₂ compare left-is right-is in
+      record {
+        lefts = ap₂ last (turns_taken.based ∙ ap (λ (o : Ordering). left_base o base) same) left-is;
+        rights = ap (last base) right-is;
+        emitted = rw (← same) (emitted_in_turn e s base (compare x y) (rw turns at first) (rw turns at second));
       }

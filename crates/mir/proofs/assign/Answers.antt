@@ -1,11 +1,10 @@
 -- The value is in the register of the tree's number.
-use Rattle.std.proofs.Common.{}
 use Rattle.header.specs.Settings.{temporary_of}
-use Rattle.mir.proofs.Statements.{assign_emitted}
+use Rattle.mir.proofs.Statements.{assign_written}
 use Rattle.mir.proofs.assign.Goals as goal
 
 pub returns : goal.returns
 returns c =
-    let a = c.args in
-    let number = c.requires.0.bare.number (temporary_of a.trees.now.header) in
-    assign_emitted a.trees.now a.p a.i number c.save_tree.ensures
+    let e = c.args.evaluator.now in
+    let numbered = c.ershov_unmarked-register.ensures.numbered c.requires in
+    assign_written e c.args.p c.args.i (numbered.number (temporary_of e.header)) c.save_tree.ensures
