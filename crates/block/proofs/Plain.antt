@@ -1,12 +1,11 @@
 -- With sharing off the sheet's own rows are fit for trimming: no tree has a text, so nothing is rewritten. Assumes nothing.
 use mathlib.Core.Path.{◌≡◌, refl, sym, ap, ap₂, ◌∙◌}
-use mathlib.Core.Bool.{Bool, true, false, cond}
+use mathlib.Core.Bool.{false}
 use mathlib.Core.List.{List, [], ◌∷◌}
 use mathlib.Core.Logic.{◌≢◌}
 use Prim.Native.Nat.{ℕ, zero, suc, ◌+◌, ◌<◌, ◌≤◌}
 use native.Mathlib.Omega.{arith}
 use lib.ListN.{get_or}
-use lib.Dec.{eqb}
 use Rattle.symbol.specs.declared.Loc.{Loc}
 use Rattle.definitions.specs.Tree.{Tree, constant, variable, one, two, depth}
 use Rattle.definitions.specs.Statement.{Statement, assign, call}
@@ -14,12 +13,13 @@ use Rattle.definitions.specs.Eliminate.{kept, find, rewrite, eliminate, texts_of
 use Rattle.node.specs.declared.Node.{Node}
 use Rattle.node.specs.declared.Node.TheVariants.{Const, Var, Unary, Binary}
 use Rattle.node.specs.Nodes.{node_at, node_tree, tree_from, tree}
-use Rattle.node.specs.Views.{masked, seen_at, seen, bare, zeros}
+use Rattle.node.specs.Views.{masked, seen_at, seen}
 use Rattle.statement.specs.declared.Row.{Row}
 use Rattle.statement.specs.declared.Row.TheVariants.{Given}
 use Rattle.statement.specs.Rows.{row_at, place_at, root_at, rows_from, row_statement, statements_of, sheet_from}
 use Rattle.statement.specs.Rowing.{OnRoot, OnGiven, Unmade, NumberedBelow, spend, spent}
 use Rattle.statement.specs.Handover.{SheetHeld, Unmarked, Owned, SheetEliminated}
+use Rattle.statement.proofs.NodesUnmarked.{zeros_most}
 use Rattle.block.specs.Sharing.{Eliminated}
 
 -- ---- the definition without texts
@@ -58,18 +58,6 @@ module _ (temporary : ℕ → Loc) (ws ms : List ℕ) (blank : (i : ℕ) → get
   seen_unmarked : (i : ℕ) → seen temporary ws ms i ≡ tree ws i
   unfolding seen tree
   seen_unmarked i = unmarked_from _ i
-
-zeros_most : (ms : List ℕ) (n : ℕ) → zeros ms n ≤ n
-unfolding zeros
-zeros_most ms zero = omega arith
-zeros_most ms (suc n) = omega (arith, zeros_most ms n, bare_most (get_or ms n 0))
-  where
-    bare_most : (m : ℕ) → bare m ≤ 1
-    bare_most m = go (eqb m 0)
-      where
-        go : (b : Bool) → cond b 1 0 ≤ 1
-        go true = omega arith
-        go false = omega arith
 
 -- ---- the sheet's own rows
 

@@ -12,17 +12,16 @@ use Rattle.rewrite.specs.Steps.{NodeShared, TextShared, RewriteReady, Rewriter, 
 use Rattle.statement.proofs.RowsSpent.{rows_spend}
 use Rattle.rewrite.proofs.Rewriting.{text_node, flag_pledges, text_row_fits}
 
-module _ {more : ℕ} {At : ℕ → List Tree → Type 0} {p : Stage} (r : RewriteReady more At p) where
-  pub ready_at : {At' : ℕ → List Tree → Type 0} → At' r.nodes r.texts → RewriteReady 0 At' p
+module _ {n more : ℕ} {At : ℕ → List Tree → Type 0} {p : Stage} (r : RewriteReady n more At p) where
+  pub ready_at : {At' : ℕ → List Tree → Type 0} → At' n r.texts → RewriteReady n 0 At' p
   ready_at a =
-      record { nodes = r.nodes; texts = r.texts; at = a; flags = r.flags; rows = r.rows; room = omega (arith, r.room) }
+      record { texts = r.texts; at = a; flags = r.flags; rows = r.rows; room = omega (arith, r.room) }
 
-  module _ {p' : Stage} {ws sh : List ℕ} {f : Rewriter} (x : TextsStored r.nodes r.texts ws sh p p' f) where
+  module _ {p' : Stage} {ws sh : List ℕ} {f : Rewriter} (x : TextsStored n r.texts ws sh p p' f) where
     -- after a call
-    pub ready_after : {At' : ℕ → List Tree → Type 0} → At' r.nodes r.texts → RewriteReady more At' p'
+    pub ready_after : {At' : ℕ → List Tree → Type 0} → At' n r.texts → RewriteReady n more At' p'
     ready_after a =
         record {
-          nodes = r.nodes;
           texts = r.texts;
           at = a;
           flags = x.flags;
@@ -38,11 +37,10 @@ module _ {more : ℕ} {At : ℕ → List Tree → Type 0} {p : Stage} (r : Rewri
         (room, omega (arith, room, x.rows, r.rows))
 
 -- at the node of a text, with its flag set
-pub ready_text : {ws sh tx : List ℕ} {t : ℕ} {p : Stage} → get_or p.flags t false ≡ false →
-    RewriteReady 0 (TextShared ws sh tx t) p → RewriteReady 0 (NodeShared ws sh tx (get_or tx t 0)) (flag p t)
+pub ready_text : {ws sh tx : List ℕ} {t n : ℕ} {p : Stage} → get_or p.flags t false ≡ false →
+    RewriteReady n 0 (TextShared ws sh tx t) p → RewriteReady n 0 (NodeShared ws sh tx (get_or tx t 0)) (flag p t)
 ready_text {t = t} {p = p} new r =
     record {
-      nodes = r.nodes;
       texts = r.texts;
       at = text_node r.at;
       flags = length-set p.flags t true ∙ r.flags;
@@ -51,10 +49,10 @@ ready_text {t = t} {p = p} new r =
     }
 
 -- a row is left for a text after those in it
-pub text_row_left : {ws sh tx : List ℕ} {t : ℕ} {p p' : Stage} → get_or p.flags t false ≡ false →
-    RewriteReady 0 (TextShared ws sh tx t) p →
+pub text_row_left : {ws sh tx : List ℕ} {t n : ℕ} {p p' : Stage} → get_or p.flags t false ≡ false →
+    RewriteReady n 0 (TextShared ws sh tx t) p →
     StoresTexts (NodeShared ws sh tx (get_or tx t 0)) (at_sides ws (get_or tx t 0)) ws sh (flag p t) p' → RowLeft p'
-text_row_left {p = p} {p' = p'} new r x =
-    let inner = x r.nodes r.texts (text_node r.at) in
+text_row_left {n = n} {p = p} {p' = p'} new r x =
+    let inner = x n r.texts (text_node r.at) in
     let room = text_row_fits r.at p new r.flags p' inner (omega (arith, r.room)) in
     (room, omega (arith, room, inner.rows, r.rows))

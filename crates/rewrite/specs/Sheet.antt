@@ -6,17 +6,16 @@ use Rattle.definitions.specs.Tree.{Tree}
 use Rattle.definitions.specs.Eliminate.{eliminate}
 use Rattle.node.specs.Views.{zeros}
 use Rattle.statement.specs.declared.Row.{Row}
+use Rattle.statement.specs.declared.Sheet.{Sheet}
 use Rattle.statement.specs.Rows.{RoomFor, rows_from, statements_of, sheet_from}
 use Rattle.statement.specs.Rowing.{spent}
 use Rattle.statement.specs.Handover.{SheetHeld, SheetShared, SheetEliminated}
 
 -- a sheet with its shared trees, and room for a row of each statement and node
-pub record Start (ws sh tx : List ℕ) (rows out : List Row) (count : ℕ) : Type 0 where
-  pub nodes : ℕ
+pub record Start (sheet : Sheet) (sh tx : List ℕ) (out : List Row) : Type 0 where
   pub texts : List Tree
-  pub held : SheetHeld ws rows nodes count
-  pub shared : SheetShared ws sh tx nodes texts
-  pub long : RoomFor out (count + nodes)
+  pub shared : SheetShared sheet.nodes.words.now sh tx sheet.nodes.count texts
+  pub long : RoomFor out (length sheet.rows.now + sheet.nodes.count)
   pub short : length out ≤ row_limit
 
 -- the e rows put out are the eliminated statements, fit for trimming
@@ -30,3 +29,6 @@ abbrev pub Eliminates : (ws sh tx : List ℕ) (rows out : List Row) (count e : �
 Eliminates ws sh tx rows out count e =
     (n : ℕ) (texts : List Tree) → SheetHeld ws rows n count → SheetShared ws sh tx n texts →
     RewrittenSheet ws sh rows out count e n texts
+
+abbrev pub SheetRewritten : (sheet : Sheet) (sh tx : List ℕ) (out : List Row) (e : ℕ) → Type 0
+SheetRewritten sheet sh tx out e = Eliminates sheet.nodes.words.now sh tx sheet.rows.now out (length sheet.rows.now) e

@@ -29,11 +29,10 @@ pub record RootShared (ws sh tx : List ℕ) (i n : ℕ) (texts : List Tree) : Ty
   pub node : NodeShared ws sh tx i n texts
   pub closed : Closed ws i
 
--- the pass may go on there: rows are left for it, and some more
-pub record RewriteReady (more : ℕ) (At : ℕ → List Tree → Type 0) (p : Stage) : Type 0 where
-  pub nodes : ℕ
+-- the pass may go on there, in a sheet of n nodes: rows are left for it, and some more
+pub record RewriteReady (n more : ℕ) (At : ℕ → List Tree → Type 0) (p : Stage) : Type 0 where
   pub texts : List Tree
-  pub at : At nodes texts
+  pub at : At n texts
   pub flags : length p.flags ≡ node_limit
   pub rows : length p.rows ≤ row_limit
   pub room : RoomFor p.rows (more + pledged p (length texts))

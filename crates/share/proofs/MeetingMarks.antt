@@ -1,9 +1,9 @@
--- What a meeting does to the marks of classes and to the texts: none, the first, the second or a later one. Assumes nothing.
+-- What a meeting does to the classes and to the texts: none, the first, the second or a later one. Assumes nothing.
 use mathlib.Core.Path.{◌≡◌, refl, sym, ap, ◌∙◌}
 use mathlib.Core.Bool.{Bool, true, false, cond, ◌||◌}
 use mathlib.Core.Option.{some}
 use mathlib.Core.List.{List, [], ◌∷◌, ◌++◌}
-use Prim.Native.Nat.{ℕ, ◌+◌, ◌-◌, ◌<◌, ◌≤◌}
+use Prim.Native.Nat.{ℕ, ◌+◌, ◌<◌, ◌≤◌}
 use native.Mathlib.Omega.{arith}
 use lib.ListN.{length, set, get_elem?, length-set, length-append}
 use lib.Seq.{get_or-set_other}
@@ -15,175 +15,185 @@ use Rattle.definitions.specs.Eliminate.{Walk, note}
 use Rattle.node.specs.Nodes.{tree}
 use Rattle.numbers.specs.Filled.{at}
 use Rattle.node.specs.Marks.{mark_of}
-use Rattle.share.specs.Sharing.{WalkReady, TextsFit, Noted, Walked}
+use Rattle.statement.proofs.NodesUnmarked.{zeros_set, bare_marked}
+use Rattle.share.specs.Sharing.{WalkReady, Met, met, is_met, TextsFit, Noted, Walked}
 use Rattle.share.proofs.Texts.{among_mark, mark_new, mark_kept, note_light, note_first, note_second, note_later}
 use Rattle.share.proofs.Texts.{text_kept, text_last}
-use Rattle.share.proofs.Unused.{at_set, unused_first, unused_second}
+use Rattle.share.proofs.Marking.{got_set, at_set}
 
--- a meeting of node i, with k temporaries given
-module _ {ws cs es : List ℕ} {n : ℕ} {ms tx : List ℕ} {i k : ℕ} (ready : WalkReady ws cs es n) (fits : TextsFit n ms tx k)
-    (inside : i < n) where
-  tells : (j : ℕ) → j < n → same (tree ws i) (tree ws j) ≡ eqb (at cs i) (at cs j)
+-- a meeting of node i
+module _ {ws cs es : List ℕ} {n : ℕ} {m : Met} {i : ℕ} (ready : WalkReady ws cs es n) (fits : TextsFit n m) (inside : i < n) where
+  abbrev class : ℕ
+  class = at cs i
+
+  tells : (j : ℕ) → j < n → same (tree ws i) (tree ws j) ≡ eqb class (at cs j)
   tells j h = sym (ready.classed.tells i j (omega arith) inside (omega arith) h)
 
-  class_below : at cs i < n
+  pub class_below : class < n
   class_below = ready.classed.below i (omega arith) inside
 
-  room : at cs i < length ms
+  pub class_within : class < length m.classes
+  class_within = omega (arith, class_below, fits.classes)
+
+  room : class < length m.marks
   room = omega (arith, class_below, ready.table.few, fits.marks)
 
   -- a mark that is set is not past the nodes
-  past_kept : (v j : ℕ) → n ≤ j → at (set ms (at cs i) v) j ≡ 0
-  past_kept v j h = get_or-set_other ms (at cs i) j v 0 (λ e. omega (arith, class_below)) ∙ fits.past j h
+  past_kept : (v j : ℕ) → n ≤ j → at (set m.marks class v) j ≡ 0
+  past_kept v j h = get_or-set_other m.marks class j v 0 (λ e. omega (arith, class_below)) ∙ fits.past j h
 
   -- a class without a temporary leaves room for one
-  pub room_more : at ms (at cs i) ≡ 1 → k < n
-  room_more z = omega (arith, fits.room, unused_second n ms (at cs i) class_below room k z)
+  pub room_more : at m.marks class ≡ 0 → m.next < n
+  room_more z = omega (arith, fits.room, zeros_set m.marks n class 1 class_below room z)
 
-  stay : ((w : Walk) → Noted ws cs n ms tx k w → note (tree ws i) w ≡ w) → Walked ws cs n (note (tree ws i)) ms tx k ms tx k
+  stay : ((w : Walk) → Noted ws cs n m w → note (tree ws i) w ≡ w) → Walked ws cs n (note (tree ws i)) m m
   stay e = record { fits = fits; noted = λ w h. rw (e w h) h }
 
-  pub light : weight (tree ws i) < 5 → Walked ws cs n (note (tree ws i)) ms tx k ms tx k
+  pub light : weight (tree ws i) < 5 → Walked ws cs n (note (tree ws i)) m m
   light w5 = stay (λ w h. note_light (tree ws i) w w5)
 
-  -- what the class's mark says of the tree
-  met_by : (w : Walk) → Noted ws cs n ms tx k w → (b : Bool) → leb 1 (at ms (at cs i)) ≡ b → among w.met (tree ws i) ≡ b
+  -- what its class says of the tree
+  met_by : (w : Walk) → Noted ws cs n m w → (b : Bool) → is_met m class ≡ b → among w.met (tree ws i) ≡ b
   met_by w h b e = sym (h.met i inside) ∙ e
 
-  given_by : (w : Walk) → Noted ws cs n ms tx k w → (b : Bool) → leb 1 (at ms (at cs i) - 1) ≡ b →
-      among w.texts (tree ws i) ≡ b
+  given_by : (w : Walk) → Noted ws cs n m w → (b : Bool) → leb 1 (at m.marks class) ≡ b → among w.texts (tree ws i) ≡ b
   given_by w h b e = among_mark w.texts (tree ws i) ∙ ap (leb 1) (sym (h.given i inside)) ∙ e
 
   -- nodes of one class have one mark
-  like : (j : ℕ) → eqb (at cs i) (at cs j) ≡ true → at ms (at cs j) ≡ at ms (at cs i)
-  like j e = ap (at ms) (sym (eqb-true (at cs i) (at cs j) e))
-
-  -- a class that is marked now had no temporary
-  own_kept : at ms (at cs i) ≤ 1 → (v : ℕ) (w : Walk) → Noted ws cs n ms tx k w → (s : ℕ) → s < k →
-      at (set ms (at cs i) v) (at cs (at tx s)) ≡ s + 2
-  own_kept z v w h s b = rw (at_set ms (at cs i) v (at cs (at tx s)) room) (go (eqb (at cs i) (at cs (at tx s))) refl)
-    where
-      go : (b : Bool) → eqb (at cs i) (at cs (at tx s)) ≡ b → cond b v (at ms (at cs (at tx s))) ≡ s + 2
-      go true e = absurd (omega (arith, like (at tx s) e, h.own s b))
-      go false e = h.own s b
+  like : (j : ℕ) → eqb class (at cs j) ≡ true → at m.marks (at cs j) ≡ at m.marks class
+  like j e = ap (at m.marks) (sym (eqb-true class (at cs j) e))
 
   module _ (heavy : 5 ≤ weight (tree ws i)) where
-    pub later : (at ms (at cs i) ≡ 0 → ⊥) → (at ms (at cs i) ≡ 1 → ⊥) → Walked ws cs n (note (tree ws i)) ms tx k ms tx k
-    later a b =
+    pub later : is_met m class ≡ true → 1 ≤ at m.marks class → Walked ws cs n (note (tree ws i)) m m
+    later seen given =
         stay
-        (λ w h. note_later (tree ws i) w heavy
-        (met_by w h true (le-leb 1 (at ms (at cs i)) (omega arith)))
-        (given_by w h true (le-leb 1 (at ms (at cs i) - 1) (omega arith))))
+        (λ w h. note_later (tree ws i) w heavy (met_by w h true seen) (given_by w h true (le-leb 1 (at m.marks class) given)))
 
-    module _ (z : at ms (at cs i) ≡ 0) (w : Walk) (h : Noted ws cs n ms tx k w) where
-      first_met : (j : ℕ) → j < n → leb 1 (at (set ms (at cs i) 1) (at cs j)) ≡ among (tree ws i ∷ w.met) (tree ws j)
-      unfolding among
-      first_met j lj = rw (at_set ms (at cs i) 1 (at cs j) room, tells j lj) (go (eqb (at cs i) (at cs j)))
-        where
-          go : (b : Bool) → leb 1 (cond b 1 (at ms (at cs j))) ≡ (b || among w.met (tree ws j))
-          go true = refl
-          go false = h.met j lj
+    module _ (new : is_met m class ≡ false) where
+      abbrev once : Met
+      once = met (set m.classes class true) m.marks m.texts m.next
 
-      first_given : (j : ℕ) → j < n → at (set ms (at cs i) 1) (at cs j) - 1 ≡ mark_of w.texts (tree ws j)
-      first_given j lj = rw (at_set ms (at cs i) 1 (at cs j) room) (go (eqb (at cs i) (at cs j)) refl)
-        where
-          go : (b : Bool) → eqb (at cs i) (at cs j) ≡ b → cond b 1 (at ms (at cs j)) - 1 ≡ mark_of w.texts (tree ws j)
-          go true e = omega (arith, like j e, h.given j lj)
-          go false e = h.given j lj
+      module _ (w : Walk) (h : Noted ws cs n m w) where
+        first_met : (j : ℕ) → j < n → is_met once (at cs j) ≡ among (tree ws i ∷ w.met) (tree ws j)
+        unfolding among
+        first_met j lj =
+            rw (got_set m.classes class true (at cs j) false class_within, tells j lj) (go (eqb class (at cs j)))
+          where
+            go : (b : Bool) → cond b true (is_met m (at cs j)) ≡ (b || among w.met (tree ws j))
+            go true = refl
+            go false = h.met j lj
 
-      first_noted : Noted ws cs n (set ms (at cs i) 1) tx k (note (tree ws i) w)
-      first_noted =
-          rw (note_first (tree ws i) w heavy (met_by w h false (ap (leb 1) z)))
+        first_noted : Noted ws cs n once (note (tree ws i) w)
+        first_noted =
+            rw (note_first (tree ws i) w heavy (met_by w h false new))
+            record {
+              met = first_met;
+              given = h.given;
+              count = h.count;
+              nodes = h.nodes;
+              trees = h.trees;
+              own = h.own;
+            }
+
+      pub first : Walked ws cs n (note (tree ws i)) m once
+      first =
           record {
-            met = first_met;
-            given = first_given;
-            count = h.count;
-            nodes = h.nodes;
-            trees = h.trees;
-            own = own_kept (omega arith) 1 w h;
+            fits =
+                record {
+                  classes = omega (arith, fits.classes, length-set m.classes class true);
+                  marks = fits.marks;
+                  places = fits.places;
+                  room = fits.room;
+                  past = fits.past;
+                };
+            noted = first_noted;
           }
 
-    pub first : at ms (at cs i) ≡ 0 → Walked ws cs n (note (tree ws i)) ms tx k (set ms (at cs i) 1) tx k
-    first z =
-        record {
-          fits =
-              record {
-                marks = length-set ms (at cs i) 1 ∙ fits.marks;
-                places = fits.places;
-                room = omega (arith, fits.room, unused_first n ms (at cs i) class_below room z);
-                past = past_kept 1;
-              };
-          noted = first_noted z;
-        }
+    module _ (seen : is_met m class ≡ true) (z : at m.marks class ≡ 0) where
+      abbrev twice : Met
+      twice = met m.classes (set m.marks class (m.next + 1)) (set m.texts m.next i) (m.next + 1)
 
-    module _ (z : at ms (at cs i) ≡ 1) (w : Walk) (h : Noted ws cs n ms tx k w) where
-      second_met : (j : ℕ) → j < n → leb 1 (at (set ms (at cs i) (k + 2)) (at cs j)) ≡ among w.met (tree ws j)
-      second_met j lj = rw (at_set ms (at cs i) (k + 2) (at cs j) room) (go (eqb (at cs i) (at cs j)) refl)
-        where
-          go : (b : Bool) → eqb (at cs i) (at cs j) ≡ b → leb 1 (cond b (k + 2) (at ms (at cs j))) ≡ among w.met (tree ws j)
-          go true e = le-leb 1 (k + 2) (omega arith) ∙ sym (ap (leb 1) (like j e ∙ z)) ∙ h.met j lj
-          go false e = h.met j lj
-
-      second_given : (j : ℕ) → j < n →
-          at (set ms (at cs i) (k + 2)) (at cs j) - 1 ≡ mark_of (w.texts ++ (tree ws i ∷ [])) (tree ws j)
-      second_given j lj = rw (at_set ms (at cs i) (k + 2) (at cs j) room) (go (eqb (at cs i) (at cs j)) refl)
-        where
-          go : (b : Bool) → eqb (at cs i) (at cs j) ≡ b →
-              cond b (k + 2) (at ms (at cs j)) - 1 ≡ mark_of (w.texts ++ (tree ws i ∷ [])) (tree ws j)
-          go true e =
-              let none : mark_of w.texts (tree ws j) ≡ 0 = omega (arith, like j e, h.given j lj) in
-              omega (arith, mark_new w.texts (tree ws i) (tree ws j) none (tells j lj ∙ e), h.count)
-          go false e = h.given j lj ∙ sym (mark_kept w.texts (tree ws i) (tree ws j) (tells j lj ∙ e))
-
-      place : k < length tx
+      place : m.next < length m.texts
       place = omega (arith, fits.places, room_more z, ready.table.few)
 
-      second_nodes : (s : ℕ) → s < k + 1 → at (set tx k i) s < n
-      second_nodes s b = rw (at_set tx k i s place) (go (eqb k s) refl)
-        where
-          go : (b : Bool) → eqb k s ≡ b → cond b i (at tx s) < n
-          go true e = inside
-          go false e = let d = eqb-false k s e in h.nodes s (omega arith)
+      module _ (w : Walk) (h : Noted ws cs n m w) where
+        second_given : (j : ℕ) → j < n → at twice.marks (at cs j) ≡ mark_of (w.texts ++ (tree ws i ∷ [])) (tree ws j)
+        second_given j lj = rw (at_set m.marks class (m.next + 1) (at cs j) room) (go (eqb class (at cs j)) refl)
+          where
+            go : (b : Bool) → eqb class (at cs j) ≡ b →
+                cond b (m.next + 1) (at m.marks (at cs j)) ≡ mark_of (w.texts ++ (tree ws i ∷ [])) (tree ws j)
+            go true e =
+                let none : mark_of w.texts (tree ws j) ≡ 0 = sym (h.given j lj) ∙ like j e ∙ z in
+                omega (arith, mark_new w.texts (tree ws i) (tree ws j) none (tells j lj ∙ e), h.count)
+            go false e = h.given j lj ∙ sym (mark_kept w.texts (tree ws i) (tree ws j) (tells j lj ∙ e))
 
-      second_trees : (s : ℕ) → s < k + 1 → get_elem? (w.texts ++ (tree ws i ∷ [])) s ≡ some (tree ws (at (set tx k i) s))
-      second_trees s b = rw (at_set tx k i s place) (go (eqb k s) refl)
-        where
-          go : (b : Bool) → eqb k s ≡ b → get_elem? (w.texts ++ (tree ws i ∷ [])) s ≡ some (tree ws (cond b i (at tx s)))
-          go true e = text_last w.texts (tree ws i) s (omega (arith, eqb-true k s e, h.count))
-          go false e =
-              let d = eqb-false k s e in
-              text_kept w.texts (tree ws i) s (omega (arith, h.count)) ∙ h.trees s (omega arith)
+        second_nodes : (s : ℕ) → s < m.next + 1 → at twice.texts s < n
+        second_nodes s b = rw (at_set m.texts m.next i s place) (go (eqb m.next s) refl)
+          where
+            go : (b : Bool) → eqb m.next s ≡ b → cond b i (at m.texts s) < n
+            go true e = inside
+            go false e = let d = eqb-false m.next s e in h.nodes s (omega arith)
 
-      second_own : (s : ℕ) → s < k + 1 → at (set ms (at cs i) (k + 2)) (at cs (at (set tx k i) s)) ≡ s + 2
-      second_own s b = rw (at_set tx k i s place) (go (eqb k s) refl)
-        where
-          go : (b : Bool) → eqb k s ≡ b → at (set ms (at cs i) (k + 2)) (at cs (cond b i (at tx s))) ≡ s + 2
-          go true e =
-              rw (at_set ms (at cs i) (k + 2) (at cs i) room, eq-eqb (at cs i) (at cs i) refl) (omega (arith, eqb-true k s e))
-          go false e = let d = eqb-false k s e in own_kept (omega arith) (k + 2) w h s (omega arith)
+        second_trees : (s : ℕ) → s < m.next + 1 →
+            get_elem? (w.texts ++ (tree ws i ∷ [])) s ≡ some (tree ws (at twice.texts s))
+        second_trees s b = rw (at_set m.texts m.next i s place) (go (eqb m.next s) refl)
+          where
+            go : (b : Bool) → eqb m.next s ≡ b →
+                get_elem? (w.texts ++ (tree ws i ∷ [])) s ≡ some (tree ws (cond b i (at m.texts s)))
+            go true e = text_last w.texts (tree ws i) s (omega (arith, eqb-true m.next s e, h.count))
+            go false e =
+                let d = eqb-false m.next s e in
+                text_kept w.texts (tree ws i) s (omega (arith, h.count)) ∙ h.trees s (omega arith)
 
-      second_noted : Noted ws cs n (set ms (at cs i) (k + 2)) (set tx k i) (k + 1) (note (tree ws i) w)
-      second_noted =
-          rw (note_second (tree ws i) w heavy (met_by w h true (ap (leb 1) z))
-          (given_by w h false (ap (λ (m : ℕ). leb 1 (m - 1)) z)))
+        -- a class that gets its temporary now had none
+        own_kept : (s : ℕ) → s < m.next → at twice.marks (at cs (at m.texts s)) ≡ s + 1
+        own_kept s b =
+            rw (at_set m.marks class (m.next + 1) (at cs (at m.texts s)) room) (go (eqb class (at cs (at m.texts s))) refl)
+          where
+            go : (b : Bool) → eqb class (at cs (at m.texts s)) ≡ b → cond b (m.next + 1) (at m.marks (at cs (at m.texts s))) ≡ s + 1
+            go true e = absurd (omega (arith, like (at m.texts s) e, h.own s b, z))
+            go false e = h.own s b
+
+        second_own : (s : ℕ) → s < m.next + 1 → at twice.marks (at cs (at twice.texts s)) ≡ s + 1
+        second_own s b = rw (at_set m.texts m.next i s place) (go (eqb m.next s) refl)
+          where
+            go : (b : Bool) → eqb m.next s ≡ b → at twice.marks (at cs (cond b i (at m.texts s))) ≡ s + 1
+            go true e =
+                rw (at_set m.marks class (m.next + 1) class room, eq-eqb class class refl) (omega (arith, eqb-true m.next s e))
+            go false e = let d = eqb-false m.next s e in own_kept s (omega arith)
+
+        second_noted : Noted ws cs n twice (note (tree ws i) w)
+        second_noted =
+            rw (note_second (tree ws i) w heavy (met_by w h true seen) (given_by w h false (ap (leb 1) z)))
+            record {
+              met = h.met;
+              given = second_given;
+              count = omega (arith, h.count, length-append w.texts (tree ws i ∷ []));
+              nodes = second_nodes;
+              trees = second_trees;
+              own = second_own;
+            }
+
+      second_walked : Walked ws cs n (note (tree ws i)) m twice
+      second_walked =
           record {
-            met = second_met;
-            given = second_given;
-            count = omega (arith, h.count, length-append w.texts (tree ws i ∷ []));
-            nodes = second_nodes;
-            trees = second_trees;
-            own = second_own;
+            fits =
+                record {
+                  classes = fits.classes;
+                  marks = length-set m.marks class (m.next + 1) ∙ fits.marks;
+                  places = length-set m.texts m.next i ∙ fits.places;
+                  room =
+                      omega (
+                        arith,
+                        fits.room,
+                        zeros_set m.marks n class (m.next + 1) class_below room z,
+                        bare_marked (m.next + 1) (omega arith),
+                      );
+                  past = past_kept (m.next + 1);
+                };
+            noted = second_noted;
           }
 
-    pub second : at ms (at cs i) ≡ 1 → Walked ws cs n (note (tree ws i)) ms tx k (set ms (at cs i) (k + 2)) (set tx k i) (k + 1)
-    second z =
-        record {
-          fits =
-              record {
-                marks = length-set ms (at cs i) (k + 2) ∙ fits.marks;
-                places = length-set tx k i ∙ fits.places;
-                room = omega (arith, fits.room, unused_second n ms (at cs i) class_below room k z);
-                past = past_kept (k + 2);
-              };
-          noted = second_noted z;
-        }
+      pub second : {marks : List ℕ} → marks ≡ set m.marks class (m.next + 1) →
+          Walked ws cs n (note (tree ws i)) m (met m.classes marks (set m.texts m.next i) (m.next + 1))
+      second e = rw e second_walked

@@ -3,4 +3,4 @@ use Rattle.share.specs.Sharing.{NodesMarked}
 use Rattle.share.proofs.settle.Given as goal
 
 abbrev pub invariant-loop-i : goal.invariant-loop-i
-invariant-loop-i l = NodesMarked l.classes l.initial.marks l.i l.marks
+invariant-loop-i l = NodesMarked l.classes l.initial.marks.words l.i l.marks.words

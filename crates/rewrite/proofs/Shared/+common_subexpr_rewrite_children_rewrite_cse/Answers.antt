@@ -25,18 +25,18 @@ common_subexpr-returns-clause-stores t c =
 
 pub rewrite_children-rewrite_cse-requires : goal.rewrite_children-rewrite_cse-requires
 rewrite_children-rewrite_cse-requires t c =
-    let side = side_one c.requires.at c.unpack-node.ensures c.in-Unary.is in
+    let side = side_one c.requires.at c.get-node.ensures c.in-Unary.is in
     (omega (arith, c.decreases, side.1), ready_at c.requires side.0)
 
 pub rewrite_children-rewrite_cse-requires-in-Binary : goal.rewrite_children-rewrite_cse-requires-in-Binary
 rewrite_children-rewrite_cse-requires-in-Binary t c =
-    let side = side_left c.requires.at c.unpack-node.ensures c.in-Binary.is in
+    let side = side_left c.requires.at c.get-node.ensures c.in-Binary.is in
     (omega (arith, c.decreases, side.1), ready_at c.requires side.0)
 
 pub rewrite_children-rewrite_cse-requires-in-Binary-2 : goal.rewrite_children-rewrite_cse-requires-in-Binary-2
 rewrite_children-rewrite_cse-requires-in-Binary-2 t c =
-    let left = side_left c.requires.at c.unpack-node.ensures c.in-Binary.is in
-    let right = side_right c.requires.at c.unpack-node.ensures c.in-Binary.is in
+    let left = side_left c.requires.at c.get-node.ensures c.in-Binary.is in
+    let right = side_right c.requires.at c.get-node.ensures c.in-Binary.is in
     let after = c.rewrite_cse-in-Binary.ensures.stores _ _ left.0 in
     (omega (arith, c.decreases, right.1), ready_after c.requires after right.0)
 
@@ -44,22 +44,22 @@ pub rewrite_children-returns-in-Const-clause-stores : goal.rewrite_children-retu
 rewrite_children-returns-in-Const-clause-stores t c =
     λ n texts a.
     elim c.in-Const.is [
-      | inl w ↦ sides_leaf a c.unpack-node.ensures w.1 (λ T st. refl) c.requires.flags
-      | inr w ↦ sides_leaf a c.unpack-node.ensures w.1 (λ T st. refl) c.requires.flags
+      | inl w ↦ sides_leaf a c.get-node.ensures w.1 (λ T st. refl) c.requires.flags
+      | inr w ↦ sides_leaf a c.get-node.ensures w.1 (λ T st. refl) c.requires.flags
     ]
 
 pub rewrite_children-returns-in-Unary-clause-stores : goal.rewrite_children-returns-in-Unary-clause-stores
 rewrite_children-returns-in-Unary-clause-stores t c =
     λ n texts a.
-    let side = side_one a c.unpack-node.ensures c.in-Unary.is in
-    sides_one a c.unpack-node.ensures c.in-Unary.is (c.rewrite_cse.ensures.stores n texts side.0)
+    let side = side_one a c.get-node.ensures c.in-Unary.is in
+    sides_one a c.get-node.ensures c.in-Unary.is (c.rewrite_cse.ensures.stores n texts side.0)
 
 pub rewrite_children-returns-in-Binary-clause-stores : goal.rewrite_children-returns-in-Binary-clause-stores
 rewrite_children-returns-in-Binary-clause-stores t c =
     λ n texts a.
-    let left = side_left a c.unpack-node.ensures c.in-Binary.is in
-    let right = side_right a c.unpack-node.ensures c.in-Binary.is in
-    sides_two a c.unpack-node.ensures c.in-Binary.is (c.rewrite_cse-in-Binary.ensures.stores n texts left.0)
+    let left = side_left a c.get-node.ensures c.in-Binary.is in
+    let right = side_right a c.get-node.ensures c.in-Binary.is in
+    sides_two a c.get-node.ensures c.in-Binary.is (c.rewrite_cse-in-Binary.ensures.stores n texts left.0)
     (c.rewrite_cse-in-Binary-2.ensures.stores n texts right.0)
 
 -- ---- a node, by its mark

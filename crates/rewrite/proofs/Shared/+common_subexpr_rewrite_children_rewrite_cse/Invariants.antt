@@ -5,10 +5,10 @@ use Rattle.node.specs.Nodes.{tree}
 use Rattle.rewrite.proofs.Shared.+common_subexpr_rewrite_children_rewrite_cse.Given as goal
 
 abbrev pub decreases-common_subexpr : goal.decreases-common_subexpr
-decreases-common_subexpr l = 3 * depth (tree l.self.now.words.now (get_or l.self.now.texts.now l.t 0)) + 1
+decreases-common_subexpr l = 3 * depth (tree l.self.now.sheet.nodes.words.now (get_or l.self.now.texts.now l.t 0)) + 1
 
 abbrev pub decreases-rewrite_children : goal.decreases-rewrite_children
-decreases-rewrite_children l = 3 * depth (tree l.self.now.words.now l.i)
+decreases-rewrite_children l = 3 * depth (tree l.self.now.sheet.nodes.words.now l.i)
 
 abbrev pub decreases-rewrite_cse : goal.decreases-rewrite_cse
-decreases-rewrite_cse l = 3 * depth (tree l.self.now.words.now l.i) + 2
+decreases-rewrite_cse l = 3 * depth (tree l.self.now.sheet.nodes.words.now l.i) + 2

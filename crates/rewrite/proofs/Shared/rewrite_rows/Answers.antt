@@ -12,7 +12,7 @@ loop-row-init c = record { same = refl; long = refl; underway = λ n texts held 
 pub rewrite_statement-requires : goal.rewrite_statement-requires
 rewrite_statement-requires c =
     let inv = c.loop-row.invariant in
-    let held = c.requires.0.held in
+    let held = c.args.self.now.sheet.held in
     let h = c.loop-row-test.true in
     rw (row_root held h c.in-Given.is)
     (statement_ready c.requires.0 inv.long (inv.underway _ _ held c.requires.0.shared) h)
@@ -24,7 +24,7 @@ loop-row-preserved c =
     elim c.match-row.branch [
       | in-Given w ↦
           let puts = w.rewrite_statement.ensures.puts in
-          let turn = turn_puts h w.in-Given.is puts c.requires.0.held c.requires.0.shared in
+          let turn = turn_puts h w.in-Given.is puts c.args.self.now.sheet.held c.requires.0.shared in
           record {
             same = rw w.out-is (w.rewrite_statement.ensures.same ∙ inv.same);
             long = rw w.out-is (turn.rows ∙ inv.long);
@@ -33,12 +33,12 @@ loop-row-preserved c =
                 (underway_goes_on held shared h (inv.underway n texts held shared)
                 (turn_puts h w.in-Given.is puts held shared));
           }
-      | in_default w ↦ absurd (w.in_default.not-Given _ _ (c.requires.0.held.given _ h))
+      | in_default w ↦ absurd (w.in_default.not-Given _ _ (c.args.self.now.sheet.held.given _ h))
     ]
 
 pub returns-clause-eliminates : goal.returns-clause-eliminates
 returns-clause-eliminates c =
     λ n texts held shared.
     let inv = c.loop-row.invariant in
-    let long = rows_fit c.requires.0 inv.long (inv.underway _ _ c.requires.0.held c.requires.0.shared) (omega arith) in
+    let long = rows_fit c.requires.0 inv.long (inv.underway _ _ c.args.self.now.sheet.held c.requires.0.shared) (omega arith) in
     underway_ends held shared (omega arith) (omega arith) long (inv.underway n texts held shared)

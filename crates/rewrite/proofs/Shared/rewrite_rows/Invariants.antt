@@ -11,7 +11,9 @@ invariant-loop-row l =
     record {
       same : l.out.rows.ghost_name ≡ l.initial.out.rows.ghost_name;
       long : length l.out.rows.now ≡ length l.initial.out.rows.now;
-      underway : (n : ℕ) (texts : List Tree) → SheetHeld l.self.words.now l.rows n (length l.rows) →
-          SheetShared l.self.words.now l.self.marks.now l.self.texts.now n texts →
-          Underway l.self.words.now l.self.marks.now l.rows (length l.rows) l.row-index n texts (stage_of l.out);
+      underway : (n : ℕ) (texts : List Tree) →
+          SheetHeld l.self.sheet.nodes.words.now l.self.sheet.rows.now n (length l.self.sheet.rows.now) →
+          SheetShared l.self.sheet.nodes.words.now l.self.marks.now.words l.self.texts.now n texts →
+          Underway l.self.sheet.nodes.words.now l.self.marks.now.words l.self.sheet.rows.now (length l.self.sheet.rows.now)
+          l.row-index n texts (stage_of l.out);
     }
