@@ -12,7 +12,8 @@ use Rattle.limits.specs.Limits.{work_words, file_limit}
 use Rattle.operation.specs.Names.{bytes}
 use Rattle.definitions.specs.Answer.{Answer, answer}
 use Rattle.definitions.specs.Text.{answer_text}
-use Rattle.builder.specs.Compiled.{Answered, Compiled, ops_of}
+use Rattle.zubmanger.specs.declared.Numbers.{Numbers}
+use Rattle.zubmanger.specs.Call.{Called}
 use Rattle.text.proofs.Texts.{sets_first, parts_room}
 use Rattle.vectors.specs.Vectors.{begins, after, end_line, bytes_of, ReadsNumber, ReadsBytes}
 use Rattle.replay.specs.Vector.{all_zero, given_answer, recorded, recorded_zero, lent_holds, asks, holds}
@@ -26,20 +27,20 @@ module _ (text : List ℕ) (a : Answer) {printed rest : List ℕ} {e : Bool} whe
 
 -- ---- a call
 
-module _ {file work work' out out' : List ℕ} {r : Answered} (made : Compiled file work work' out out' r) where
+module _ {file work work' out out' : List ℕ} {n : Numbers} (called : Called file work work' out out' n) where
   -- what it gives are the parts of the answer
-  given_answer_lem : given_answer r out' ≡ answer file (length work) (length out)
-  given_answer_lem = rw (made.says.number, made.says.ops, made.says.temps, made.output)
+  given_answer_lem : given_answer n out' ≡ answer file (length work) (length out)
+  given_answer_lem = rw (called.number, called.ops, called.temps, called.output)
 
-  pub given_room : 6 * ops_of r ≤ length out'
-  given_room = parts_room file (length work) (length out) made.says.ops made.output
+  pub given_room : 6 * n.ops ≤ length out'
+  given_room = parts_room file (length work) (length out) called.ops called.output
 
   -- the words that are checked to be zero are
   pub work_zero : all_zero work' ≡ true
-  work_zero = ap all_zero made.cleared ∙ zeros (length work)
+  work_zero = ap all_zero called.cleared ∙ zeros (length work)
 
   pub given_recorded : (text : List ℕ)
-      → recorded_zero text (given_answer r out') ≡ recorded text (answer file (length work) (length out))
+      → recorded_zero text (given_answer n out') ≡ recorded text (answer file (length work) (length out))
   unfolding recorded_zero
   given_recorded text =
       ap (recorded_zero text) given_answer_lem

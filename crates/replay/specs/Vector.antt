@@ -5,7 +5,7 @@ use Rattle.limits.specs.Limits.{work_words, file_limit}
 use Rattle.operation.specs.Names.{bytes}
 use Rattle.definitions.specs.Answer.{Answer, answer}
 use Rattle.definitions.specs.Text.{answer_text}
-use Rattle.builder.specs.Compiled.{Answered, number_of, ops_of, temps_of}
+use Rattle.zubmanger.specs.declared.Numbers.{Numbers}
 use Rattle.text.specs.Line.{answer_of}
 use Rattle.vectors.specs.Vectors.{begins, after, end_line, bytes_of, number_from, digits_from, comments_length, end_length}
 
@@ -14,8 +14,8 @@ abbrev pub all_zero : List ℕ → Bool
 all_zero ws = list_all (λ w. nat_eq w 0) ws
 
 -- the answer of what a call gives, and the words of the output
-abbrev pub given_answer : Answered → (output : List ℕ) → Answer
-given_answer r out = answer_of (number_of r) (ops_of r) (temps_of r) out
+abbrev pub given_answer : Numbers → (output : List ℕ) → Answer
+given_answer n out = answer_of n.number n.ops n.temps out
 
 -- a text begins with that of an answer, and the line `end` after it
 unfoldable pub recorded : (text : List ℕ) → Answer → Bool

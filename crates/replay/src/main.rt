@@ -4,15 +4,12 @@
 ghost use Rattle.std.specs.Prelude.{◌≡◌, ◌*◌, ◌≤◌, length, drop};
 ghost use Rattle.limits.specs.Limits.{work_words};
 ghost use Rattle.definitions.specs.Answer.{answer};
-ghost use Rattle.builder.specs.Compiled.{ops_of};
-ghost use Rattle.text.specs.Line.{answer_of};
 ghost use Rattle.replay.specs.Vector.{all_zero, given_answer, recorded, recorded_zero};
 ghost use Rattle.replay.specs.Vector.{lent_holds, asks, holds, vector_count, wrong_count};
 
-use builder::Counts;
 use limits::{BYTES, TEXT, WORK};
-use refusal::Refusal;
 use vectors::Cursor;
+use zubmanger::Numbers;
 
 // How many vectors there are, and how many of them differ.
 #[derive(Clone, Copy, Debug, Default, PartialEq, Eq)]
@@ -29,26 +26,15 @@ fn is_zero(words: &[u32]) -> bool
 }
 
 // Whether a text begins with an answer's, and a line `end` after it, and the output past the list is zero.
-fn printed(mut text: Cursor, number: u32, counts: Counts, out: &[u32]) -> bool
-    requires { (6 * counts.ops ≤ length out.now) × (length out.now ≤ work_words) }
-    ensures { result ≡ recorded_zero text.entry.text.now (answer_of number counts.ops counts.temps out.now) }
+fn printed(mut text: Cursor, answer: Numbers, out: &[u32]) -> bool
+    requires { (6 * answer.ops ≤ length out.now) × (length out.now ≤ work_words) }
+    ensures { result ≡ recorded_zero text.entry.text.now (given_answer answer out.now) }
 {
-    let Counts { ops, temps } = counts;
+    let Numbers { number, ops, temps } = answer;
     let mut expected = [0u8; TEXT];
     let n = text::answer_text(number, ops, temps, out, &mut expected);
     text.skip(&expected[..n]);
     text.begins(b"end\n") && is_zero(&out[6 * ops as usize..])
-}
-
-// The same with the answer as it is given.
-fn told(text: Cursor, answer: Result<Counts, Refusal>, out: &[u32]) -> bool
-    requires { (6 * ops_of answer ≤ length out.now) × (length out.now ≤ work_words) }
-    ensures { result ≡ recorded_zero text.entry.text.now (given_answer answer out.now) }
-{
-    match answer {
-        Ok(counts) => printed(text, 0, counts, out),
-        Err(refusal) => printed(text, u32::from(refusal), Counts { ops: 0, temps: 0 }, out),
-    }
 }
 
 // Whether a sheet is answered as recorded. That the work and the rest of the output are zero always holds, and is checked too.
@@ -56,8 +42,8 @@ fn answered(text: Cursor, file: &[u8], work: &mut [u32], out: &mut [u32]) -> boo
     requires { length out.old ≤ work_words }
     ensures { result ≡ recorded text.entry.text.now (answer file.now (length work.old) (length out.old)) }
 {
-    let answer = builder::compile_mir(file, work, out);
-    is_zero(work) && told(text, answer, out)
+    let answer = zubmanger::zubmanger_compile(file, work, out);
+    is_zero(work) && printed(text, answer, out)
 }
 
 // The same with so many words lent, if there are so many, none of which is zero before.

@@ -7,8 +7,8 @@ ghost use Rattle.limits.specs.Limits.{work_words, text_limit};
 ghost use Rattle.definitions.specs.Answer.{answer};
 ghost use Rattle.definitions.specs.Text.{answer_text};
 
-use builder::Counts;
 use limits::{BYTES, TEXT, WORK};
+use zubmanger::Numbers;
 
 // Writes the text of the answer to a file at the start of a text, and answers its length.
 #[tactic(auto, using(text::proofs::Texts::parts_room, text::proofs::Texts::parts_written))]
@@ -19,10 +19,8 @@ fn answered(file: &[u8], text: &mut [u8]) -> usize
 {
     let mut work = [0u32; WORK];
     let mut out = [0u32; WORK];
-    match builder::compile_mir(file, &mut work, &mut out) {
-        Ok(Counts { ops, temps }) => text::answer_text(0, ops, temps, &out, text),
-        Err(refusal) => text::answer_text(u32::from(refusal), 0, 0, &out, text),
-    }
+    let Numbers { number, ops, temps } = zubmanger::zubmanger_compile(file, &mut work, &mut out);
+    text::answer_text(number, ops, temps, &out, text)
 }
 
 // One byte more is read than a sheet may have, so that a longer one is seen.
