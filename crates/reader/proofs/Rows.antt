@@ -14,7 +14,7 @@ use Rattle.words.proofs.StoreRuns.{get_d_sets}
 use Rattle.statement.specs.declared.Row.{Row}
 use Rattle.statement.specs.declared.Row.TheVariants.{Given}
 use Rattle.statement.specs.Rows.{empty, row_at, place_of, root_of, place_at, root_at, sheet_from}
-use Rattle.reader.specs.Reads.{statement_words, statement_rows}
+use Rattle.statement.specs.Laid.{statement_words, statement_rows}
 
 pub cons_head : {A : Type 0} {x y : A} {xs ys : List A} → x ∷ xs ≡ y ∷ ys → x ≡ y
 cons_head e = cc

@@ -1,5 +1,5 @@
--- What the statements from k on will be found to be, all are.
-use Rattle.std.proofs.Common.{ℕ, List, ◌+◌, ◌*◌, ◌-◌, Result}
+-- What the statements from k on will be found to be, all are: rows past those of the sheet stay.
+use Rattle.std.proofs.Common.{ℕ, List, ◌≡◌, ◌+◌, ◌*◌, ◌-◌, ◌++◌, length, drop, Result}
 use Rattle.refusal.specs.declared.Refusal.{Refusal}
 use Rattle.header.specs.declared.Header.{Header}
 use Rattle.header.specs.Settings.{header_of}
@@ -13,6 +13,9 @@ invariant-loop-k l =
     let file = l.self.file.now in
     let left = statements_at file l.n (pairs_from file (8 + 4 * l.k) (l.self.header.count - l.k)) in
     let all = statements_at file 0 (pairs file) in
-    (r : Result (Header × ℕ) Refusal) (ws' : List ℕ) (rows' : List Row)
-    → StatementsRead (header_of file) left l.n l.k l.ws l.rows r ws' rows'
-    → StatementsRead (header_of file) all 0 0 l.initial.ws l.initial.rows r ws' rows'
+    record {
+      given : length l.row-items ≡ l.self.header.count;
+      on : (r : Result (Header × ℕ) Refusal) (ws' : List ℕ) (rows' : List Row)
+          → StatementsRead (header_of file) left l.n l.k l.ws (l.row-items ++ drop l.self.header.count l.fn.rows) r ws' rows'
+          → StatementsRead (header_of file) all 0 0 l.initial.ws l.fn.rows r ws' rows';
+    }
