@@ -47,8 +47,8 @@ pub const TEXT: usize = LINE * (WORK / 6 + 1);
 // A word for each node, or for each of as many temporaries.
 pub type PerNode = [u32; NODES];
 
-// An optional number for each node, or for each of as many chains: a word each, 0 or 1 + the number, which get alone reads and set
-// alone writes. Not options (fixed memory: one takes two words, and all of them are cleared on each call).
+// An optional number for each node, or for each of as many chains: a word each, 0 or 1 + the number, as get reads and set writes it.
+// Options themselves take twice the memory, which is fixed, and half as long again to clear on each call (tried).
 #[derive(Drop)]
 pub struct Options {
     pub words: PerNode,
