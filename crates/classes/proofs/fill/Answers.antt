@@ -8,8 +8,8 @@ pub ershov_of-requires : goal.ershov_of-requires
 ershov_of-requires c =
     sides_low c.loop-i.invariant.0 (omega arith) c.args.nodes.now.table c.get-x.ensures
 
-pub mix_of-mix-requires : goal.mix_of-mix-requires
-mix_of-mix-requires c = sides_inside (omega arith) c.loop-i.auto.i c.loop-i.invariant.1 c.get-x.ensures
+pub mix_of-mix-requires-clause-sides : goal.mix_of-mix-requires-clause-sides
+mix_of-mix-requires-clause-sides c = sides_inside (omega arith) c.loop-i.auto.i c.loop-i.invariant.1 c.get-x.ensures
 
 pub invariant_of-next-clause-next : goal.invariant_of-next-clause-next
 invariant_of-next-clause-next c =
