@@ -20,7 +20,8 @@ pub struct Header {
     pub count: u32,
 }
 
-// Little-endian.
+// Little-endian. A function for each width, as values has number64: from_le_bytes is each type's own, and no trait's, so one function of
+// all widths would take it as a parameter, and its callers would spell the width all the same.
 pub fn number16(s: &[u8], at: usize) -> u16
     requires { at + 1 < length s.now }
     ensures { result ≡ number_at s.now at }

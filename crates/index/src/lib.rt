@@ -1,5 +1,6 @@
 // Where items stand that are sought by their mixes: digital search trees, one for each remainder of a mix.
-// They stand in an array's words, and not in boxes or a map, since the library has no heap.
+// They stand in an array's words, each 0 or 1 + an item, and not in boxes, a map or options: the library has no heap, and in fixed
+// memory an option takes two words, all of which are cleared on each call.
 #![tactic(auto)]
 
 ghost use Rattle.std.specs.Prelude.{◌≡◌, ◌/◌};
