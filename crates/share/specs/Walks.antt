@@ -1,9 +1,20 @@
 -- The walk of the first pass as the code has it: what it goes by, and what it has met.
-use Rattle.std.specs.Prelude.{◌≡◌}
+use Rattle.std.specs.Prelude.{◌≡◌, ℕ, List, length}
+use Rattle.definitions.specs.Tree.{Tree}
+use Rattle.definitions.specs.Statement.{Statement}
 use Rattle.definitions.specs.Eliminate.{Walk}
+use Rattle.node.specs.Nodes.{tree}
+use Rattle.statement.specs.Rows.{sheet_from}
 use Rattle.share.specs.declared.Walker.{Walker}
 use Rattle.share.specs.declared.Meetings.{Meetings}
 use Rattle.share.specs.Sharing.{Met, met, Unmet as NothingMet, TextsFit, Walked}
+
+-- the tree of node i, and the statements of the sheet
+abbrev pub tree_of : Walker → ℕ → Tree
+tree_of s i = tree s.sheet.nodes.words.now i
+
+abbrev pub statements_of : Walker → List Statement
+statements_of s = sheet_from s.sheet.nodes.words.now s.sheet.rows.now 0 (length s.sheet.rows.now)
 
 abbrev pub met_of : Meetings → Met
 met_of m = met m.classes.now m.marks.now.words m.texts.now m.next
