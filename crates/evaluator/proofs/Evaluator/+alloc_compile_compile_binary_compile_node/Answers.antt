@@ -72,6 +72,12 @@ compile_node-returns-in-Binary t c = seen_two c.requires c.get.ensures c.in-Bina
 
 -- ---- compile_binary, from the plan of its sides
 
+pub compile_binary-alloc-a-requires : goal.compile_binary-alloc-a-requires
+compile_binary-alloc-a-requires t c =
+    let left = c.ershov-x.ensures.numbered (omega arith) in
+    let right = c.ershov-y.ensures.numbered (omega arith) in
+    (omega arith, (c.requires, (left, right)))
+
 pub compile_binary-returns-in-InRegisters : goal.compile_binary-returns-in-InRegisters
 compile_binary-returns-in-InRegisters t c =
     two_in_registers c.args.self.now c.args.s c.args.base (c.ershov-x.ensures.numbered (omega arith)) (c.ershov-y.ensures.numbered (omega arith))
@@ -91,16 +97,16 @@ compile_binary-returns-in-Left t c =
 
 pub alloc-compile-requires : goal.alloc-compile-requires
 alloc-compile-requires t c =
-    let turns = turns_taken c.ershov-x.result c.ershov-y.result c.requires c.take_turns-turns.ensures in
-    (omega (arith, turns.from, turns.inside), first_ready c.ershov-x.result c.ershov-y.result c.requires c.take_turns-turns.ensures)
+    let turns = turns_taken c.args.x c.args.y c.requires.ready c.take_turns-turns.ensures in
+    (omega (arith, turns.from, turns.inside), first_ready c.args.x c.args.y c.requires.ready c.take_turns-turns.ensures)
 
 pub alloc-compile-requires-2 : goal.alloc-compile-requires-2
 alloc-compile-requires-2 t c =
-    let turns = turns_taken c.ershov-x.result c.ershov-y.result c.requires c.take_turns-turns.ensures in
-    let ready = second_ready c.ershov-x.result c.ershov-y.result c.requires c.take_turns-turns.ensures refl c.compile.ensures in
+    let turns = turns_taken c.args.x c.args.y c.requires.ready c.take_turns-turns.ensures in
+    let ready = second_ready c.args.x c.args.y c.requires.ready c.take_turns-turns.ensures refl c.compile.ensures in
     (omega (arith, turns.next, turns.next_inside), ready)
 
 pub alloc-returns : goal.alloc-returns
 alloc-returns t c =
-    sides_allocated _ _ c.requires c.take_turns-turns.ensures (c.ershov-x.ensures.numbered (omega arith))
-    (c.ershov-y.ensures.numbered (omega arith)) c.compile.ensures c.compile-2.ensures
+    sides_allocated _ _ c.requires.ready c.take_turns-turns.ensures c.requires.left c.requires.right c.compile.ensures
+    c.compile-2.ensures
