@@ -13,9 +13,9 @@ use Rattle.node.specs.Sized.{SizedNode}
 use Rattle.node.proofs.Nodes.{equal_or}
 use Rattle.node.proofs.Stores.{Has, sets_have}
 use Rattle.node.proofs.Laying.{node_words_back, node_packed}
-use Rattle.node.specs.Sides.{Sides}
+use Rattle.node.specs.Sides.{Sides, tree_over}
 use Rattle.node.proofs.Sides.{sides_more}
-use Rattle.links.specs.Links.{link_tree, linked, Inside, Links}
+use Rattle.links.specs.Links.{linked, Inside, Links}
 use Rattle.links.proofs.Links.{over, linked_node, Kept, links_kept, linked_kept}
 use Rattle.linking.specs.Rows.{Free, Added}
 
@@ -57,13 +57,13 @@ module _ {rows : List ℕ} {i : ℕ} (free : Free rows i) (m : Node) (sized : Si
             (λ e. later.packed j (omega (arith, e)) b);
       }
 
-  tree_is : linked after i ≡ link_tree (linked rows) left m
+  tree_is : linked after i ≡ tree_over (linked rows) left m
   tree_is =
       linked_node links i (omega arith) (omega (arith, whole, free.inside)) ∙ rw (node_is, end_is)
       (over (linked after) (linked rows) left m
       (sides_more (After rows i) _ (λ j h. linked_kept free.links kept j (omega arith) h.1) left m sides))
 
-  pub row_added : {t : Tree} {rows' : List ℕ} → link_tree (linked rows) left m ≡ t → rows' ≡ after → Added rows rows' i t
+  pub row_added : {t : Tree} {rows' : List ℕ} → tree_over (linked rows) left m ≡ t → rows' ≡ after → Added rows rows' i t
   row_added e stored =
       rw stored
       record {

@@ -1,4 +1,5 @@
+pub mod NewRows
 pub mod Adding
-pub mod Rows
 pub mod Mixes
+pub mod Rows
 pub mod Turns

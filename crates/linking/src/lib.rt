@@ -1,106 +1,115 @@
 // Linked rows for the nodes as read, tidied from the leaves up.
 #![tactic(auto)]
 
-ghost use Rattle.std.specs.Prelude.{◌≡◌, false, ◌+◌, ◌*◌, ◌<◌, ◌≤◌, length};
-ghost use Rattle.operation.specs.declared.One.TheVariants.{Unary};
-ghost use Rattle.operation.specs.declared.Two.TheVariants.{Binary};
-ghost use Rattle.definitions.specs.Tree.{one};
-ghost use Rattle.node.specs.Nodes.{Table};
+ghost use Rattle.std.specs.Prelude.{◌≡◌, false, ◌*◌, ◌≤◌, length};
+ghost use Rattle.operation.specs.declared.One.TheVariants.{Unary as UnaryOne};
+ghost use Rattle.operation.specs.declared.Two.TheVariants.{Binary as BinaryTwo};
+ghost use Rattle.node.specs.declared.Node.TheVariants.{Unary as UnaryNode};
+ghost use Rattle.node.specs.Sides.{Sides, tree_over};
+ghost use Rattle.node.specs.Sized.{SizedNode};
 ghost use Rattle.tidying.specs.Units.{units_of};
 ghost use Rattle.tidying.specs.Tidy.{alone, joined};
 ghost use Rattle.mix.specs.Mix.{mix};
-ghost use Rattle.links.specs.Links.{linked, Row};
-ghost use Rattle.alike.specs.Alike.{Mixed};
-ghost use Rattle.rules.specs.Moves.{From};
-ghost use Rattle.linking.specs.Rows.{Free, Added, Tidied, Kept, Entered};
+ghost use Rattle.links.specs.Links.{linked};
+ghost use Rattle.links.specs.LinkedFrom.{Has};
+ghost use Rattle.alike.specs.Alike.{Comparable};
+ghost use Rattle.linking.specs.Rows.{Tidied, Kept};
+ghost use Rattle.linking.specs.NewRows.{Makes, Joins};
 
-use node::Node;
+use links::LinkedRows;
+use node::{Node, NodeTable};
 use operation::{BinaryCode, One, Two, UnaryCode};
 use rules::{Made, Rules};
 
-// Row i as the unary of a code over row j.
-fn link_unary(rows: &mut [u32], i: u32, code: UnaryCode, j: u32)
-    requires { Free rows.old i × From rows.old (i + 1) j }
-    ensures { Added rows.old rows.new i (one (Unary code) (linked rows.old j)) }
-{
-    node::pack(rows, i, Node::Unary(One::Unary(code)), j)
+// A row to come before the linked ones: its node, and the number of its left side.
+#[derive(Clone, Copy)]
+struct NewRow {
+    node: Node,
+    left: u32,
 }
 
-// Row i as 1 times row j: row j's own node, or the real part of a constant.
-fn link_alone(rows: &mut [u32], i: u32, j: u32)
-    requires { Free rows.old i × From rows.old (i + 1) j }
-    ensures { Added rows.old rows.new i (alone (linked rows.old j)) }
+// The unary of a code over row j.
+fn unary_row(code: UnaryCode, j: u32) -> NewRow
+    ensures node { result.node ≡ UnaryNode (UnaryOne code) }
+    ensures left { result.left ≡ j }
 {
-    let x = node::unpack(rows, j);
-    let left = node::end_of(rows, j);
-    match x {
-        Node::Const(_) => link_unary(rows, i, UnaryCode::Real, j),
-        _ => node::pack(rows, i, x, left),
+    NewRow {
+        node: Node::Unary(One::Unary(code)),
+        left: j,
     }
 }
 
-// Row i as the operation of a code over rows l and r, tidied.
-fn link_binary(
-    rows: &mut [u32],
-    mx: &[u64],
-    values: &[u8],
-    i: u32,
-    code: BinaryCode,
-    l: u32,
-    r: u32,
-)
-    requires { Free rows.old i × From rows.old (i + 1) l × From rows.old (i + 1) r × Mixed rows.old mx.now (i + 1) }
-    ensures { Added rows.old rows.new i
-        (joined (units_of values.now) (Binary code) (linked rows.old l) (linked rows.old r)) }
+// 1 times row j: row j's own node, or the real part of a constant.
+fn alone_row(links: &LinkedRows, j: u32) -> NewRow
+    requires { Has links.now j }
+    ensures { Makes links.now result (alone (linked links.now.rows.now j)) }
 {
-    let rules = Rules { rows, mx, values };
+    let node = links.get(j);
+    let left = links.left(j);
+    match node {
+        Node::Const(_) => unary_row(UnaryCode::Real, j),
+        _ => NewRow { node, left },
+    }
+}
+
+// The operation of a code over rows l and r, tidied.
+fn binary_row(rules: &Rules, code: BinaryCode, l: u32, r: u32) -> NewRow
+    requires { Comparable rules.now.links l r }
+    ensures { Makes rules.now.links result (joined (units_of rules.now.values.now) (BinaryTwo code)
+        (linked rules.now.links.rows.now l) (linked rules.now.links.rows.now r)) }
+{
     match rules.settle(code, l, r) {
-        Made::Node(c, x, y) => node::pack(rows, i, Node::Binary(Two::Binary(c), y), x),
-        Made::Neg(j) => link_unary(rows, i, UnaryCode::Neg, j),
-        Made::Alone(j) => link_alone(rows, i, j),
-        Made::Abs2(j) => link_unary(rows, i, UnaryCode::Abs2, j),
+        Made::Node(c, x, y) => NewRow {
+            node: Node::Binary(Two::Binary(c), y),
+            left: x,
+        },
+        Made::Neg(j) => unary_row(UnaryCode::Neg, j),
+        Made::Alone(j) => alone_row(&rules.links, j),
+        Made::Abs2(j) => unary_row(UnaryCode::Abs2, j),
     }
 }
 
-// Row i from node i, the rows after it done; whether a rule may fit, which only binaries have.
-fn link_node(ws: &[u32], rows: &mut [u32], mx: &[u64], values: &[u8], i: u32) -> bool
-    requires { Tidied values.now ws.now rows.old (i + 1) × Mixed rows.old mx.now (i + 1)
-        × (4 * i + 3 < length rows.old) }
-    ensures { Entered values.now ws.now rows.old rows.new i result }
+// A node over linked rows, and whether a rule may fit, which only binaries have.
+fn node_row<'a>(links: LinkedRows<'a>, values: &'a [u8], node: Node, left: u32) -> (NewRow, bool)
+    requires sized { SizedNode node }
+    requires sides { Sides (Has links) left node }
+    ensures { Joins links.entry values.now node left result }
 {
-    let x = node::unpack(ws, i);
-    let rules = Rules { rows, mx, values };
-    match x {
-        Node::Binary(Two::Binary(code), right) if rules.may_fit(code, i + 1, right) => {
-            link_binary(rows, mx, values, i, code, i + 1, right);
-            true
+    let rules = Rules { links, values };
+    match node {
+        Node::Binary(Two::Binary(code), right) if rules.may_fit(code, left, right) => {
+            (binary_row(&rules, code, left, right), true)
         }
-        _ => {
-            node::pack(rows, i, x, i + 1);
-            false
-        }
+        _ => (NewRow { node, left }, false),
     }
 }
 
-// The mix of row i's tree, from those of its sides.
-fn mix_row(rows: &[u32], mx: &[u64], i: u32) -> u64
-    requires { Row rows.now i × Mixed rows.now mx.now (i + 1) }
-    ensures { result ≡ mix (linked rows.now i) }
+// The mix of a new row's tree, from those of its sides.
+fn mix_row(links: &LinkedRows, row: NewRow) -> u64
+    requires { Sides (Has links.now) row.left row.node }
+    ensures { result ≡ mix (tree_over (linked links.now.rows.now) row.left row.node) }
 {
-    let left = node::end_of(rows, i);
-    mix::mix_node(node::unpack(rows, i), left, |j| mx[j as usize])
+    mix::mix_node(row.node, row.left, |j| links.mix(j))
 }
 
 // Every row, from the last node to the first; whether a rule may have fitted.
-pub fn link(ws: &[u32], rows: &mut [u32], mx: &mut [u64], values: &[u8], n: u32) -> bool
-    requires { Table ws.now n × (length rows.old ≡ 4 * n) × (n ≤ length mx.old) }
-    ensures { Tidied values.now ws.now rows.new 0
-        × (length rows.new ≡ 4 * n) × (result ≡ false → Kept ws.now rows.new 0) }
+pub fn link(nodes: &NodeTable, rows: &mut [u32], mixes: &mut [u64], values: &[u8]) -> bool
+    requires { (length rows.old ≡ 4 * nodes.now.count) × (nodes.now.count ≤ length mixes.old) }
+    ensures { Tidied values.now nodes.now.words.now rows.new 0
+        × (length rows.new ≡ 4 * nodes.now.count) × (result ≡ false → Kept nodes.now.words.now rows.new 0) }
 {
     let mut changed = false;
-    for i in (0..n).rev() {
-        changed |= link_node(ws, rows, mx, values, i);
-        mx[i as usize] = mix_row(rows, mx, i);
+    for i in (0..nodes.count).rev() {
+        let links = LinkedRows {
+            rows,
+            mixes,
+            from: i + 1,
+        };
+        let (row, ruled) = node_row(links, values, nodes.get(i), i + 1);
+        let mix = mix_row(&links, row);
+        changed |= ruled;
+        node::pack(rows, i, row.node, row.left);
+        mixes[i as usize] = mix;
     }
     changed
 }

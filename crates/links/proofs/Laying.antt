@@ -6,26 +6,20 @@ use native.Mathlib.Omega.{arith}
 use lib.ListN.{length}
 use lib.Seq.{sets}
 use Rattle.limits.specs.Limits.{node_limit}
-use Rattle.symbol.specs.declared.Loc.{Loc}
 use Rattle.operation.specs.declared.One.{One}
 use Rattle.operation.specs.declared.Two.{Two}
 use Rattle.definitions.specs.Tree.{weight}
 use Rattle.node.specs.declared.Node.{Node}
-use Rattle.node.specs.declared.Node.TheVariants.{Const, Var, Unary as UnaryNode, Binary as BinaryNode}
-use Rattle.node.specs.Sides.{Sides}
+use Rattle.node.specs.declared.Node.TheVariants.{Unary as UnaryNode, Binary as BinaryNode}
+use Rattle.node.specs.Sides.{Sides, IsLeaf, const, var, tree_over}
 use Rattle.node.specs.Nodes.{node_words, node_at, end_at, layout}
 use Rattle.node.proofs.Laying.{one_laid, two_laid}
-use Rattle.links.specs.Links.{link_tree, linked, Inside, Row, Fits, Lays}
+use Rattle.links.specs.Links.{linked, Inside, Row, Fits, Lays}
 use Rattle.links.proofs.Links.{row_side, row_tree, row_rises}
-
--- a node with no side
-pub data IsLeaf : Node → Type 0 where
-  const : (k : ℕ) → IsLeaf (Const k)
-  var : (p : Loc) → IsLeaf (Var p)
 
 -- row i is the node x
 pub record Read (rows : List ℕ) (i : ℕ) (x : Node) (left : ℕ) : Type 0 where
-  pub tree : linked rows i ≡ link_tree (linked rows) left x
+  pub tree : linked rows i ≡ tree_over (linked rows) left x
   pub sides : Sides (λ j. (i < j) × Inside rows j) left x
 
 pub row_read : {rows : List ℕ} {i left : ℕ} {x z : Node} → Row rows i → x ≡ node_at rows i → left ≡ end_at rows i → x ≡ z

@@ -1,2 +1,3 @@
 pub mod Links
+pub mod LinkedFrom
 pub mod Laying

@@ -8,13 +8,13 @@ use Rattle.limits.specs.Limits.{node_limit}
 use Rattle.definitions.specs.Tree.{Tree, one, two}
 use Rattle.node.specs.declared.Node.{Node}
 use Rattle.node.specs.declared.Node.TheVariants.{Const, Var, Unary as UnaryNode, Binary as BinaryNode}
-use Rattle.node.specs.Sides.{Sides}
+use Rattle.node.specs.Sides.{Sides, tree_over}
 use Rattle.node.proofs.Sides.{sides_more}
 use Rattle.node.specs.Nodes.{node_at, end_at, Packed}
-use Rattle.links.specs.Links.{link_tree, linked_from, linked, Inside, Links, Row}
+use Rattle.links.specs.Links.{linked_from, linked, Inside, Links, Row}
 
 -- trees over equal sides are equal
-pub over : (f g : ℕ → Tree) (left : ℕ) (m : Node) → Sides (λ j. f j ≡ g j) left m → link_tree f left m ≡ link_tree g left m
+pub over : (f g : ℕ → Tree) (left : ℕ) (m : Node) → Sides (λ j. f j ≡ g j) left m → tree_over f left m ≡ tree_over g left m
 unfolding Sides
 over f g left (Const k) h = refl
 over f g left (Var p) h = refl
@@ -51,14 +51,14 @@ module _ {rows : List ℕ} {lo : ℕ} (links : Links rows lo) where
       (sides_more (After rows i) _ (λ x h. turns_enough k j x (omega arith) h.1 (omega arith) (omega arith))
       (end_at rows i) (node_at rows i) (links.rises i a b))
 
-  pub linked_node : (i : ℕ) → lo ≤ i → Inside rows i → linked rows i ≡ link_tree (linked rows) (end_at rows i) (node_at rows i)
+  pub linked_node : (i : ℕ) → lo ≤ i → Inside rows i → linked rows i ≡ tree_over (linked rows) (end_at rows i) (node_at rows i)
   unfolding linked linked_from
   linked_node i a b =
       over (linked_from (node_limit - 1) rows) (linked rows) (end_at rows i) (node_at rows i)
       (sides_more (After rows i) _ (λ x h. turns_enough (node_limit - 1) node_limit x (omega arith) h.1 (omega arith) (omega arith))
       (end_at rows i) (node_at rows i) (links.rises i a b))
 
-pub row_tree : {rows : List ℕ} {i : ℕ} → Row rows i → linked rows i ≡ link_tree (linked rows) (end_at rows i) (node_at rows i)
+pub row_tree : {rows : List ℕ} {i : ℕ} → Row rows i → linked rows i ≡ tree_over (linked rows) (end_at rows i) (node_at rows i)
 row_tree {rows} {i} row = linked_node row.links i (omega arith) row.inside
 
 pub row_rises : {rows : List ℕ} {i : ℕ} → Row rows i → Sides (λ j. (i < j) × Inside rows j) (end_at rows i) (node_at rows i)

@@ -3,22 +3,13 @@
 use Rattle.std.specs.Prelude.{◌≡◌, ℕ, zero, suc, ◌+◌, ◌*◌, ◌<◌, ◌≤◌, List, length}
 use Rattle.std.proofs.lemmas.List.Edits.{sets}
 use Rattle.limits.specs.Limits.{node_limit}
-use Rattle.definitions.specs.Tree.{Tree, constant, variable, one, two, weight}
-use Rattle.node.specs.declared.Node.{Node}
-use Rattle.node.specs.declared.Node.TheVariants.{Const, Var, Unary as UnaryNode, Binary as BinaryNode}
-use Rattle.node.specs.Sides.{Sides}
+use Rattle.definitions.specs.Tree.{Tree, constant, weight}
+use Rattle.node.specs.Sides.{Sides, tree_over}
 use Rattle.node.specs.Nodes.{node_at, end_at, Packed, layout}
-
--- the tree of a row, given the trees of its sides
-abbrev pub link_tree : (ℕ → Tree) → (left : ℕ) → Node → Tree
-link_tree tree left (Const k) = constant k
-link_tree tree left (Var p) = variable p
-link_tree tree left (UnaryNode o) = one o (tree left)
-link_tree tree left (BinaryNode o right) = two o (tree left) (tree right)
 
 unfoldable pub linked_from : (turns : ℕ) (rows : List ℕ) → ℕ → Tree
 linked_from zero rows i = constant 0
-linked_from (suc k) rows i = link_tree (linked_from k rows) (end_at rows i) (node_at rows i)
+linked_from (suc k) rows i = tree_over (linked_from k rows) (end_at rows i) (node_at rows i)
 
 -- the tree of row i: sides come after their row, and there are no more rows than a sheet may have nodes
 unfoldable pub linked : (rows : List ℕ) → ℕ → Tree

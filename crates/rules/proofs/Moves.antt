@@ -5,7 +5,6 @@ use mathlib.Core.List.{List}
 use Rattle.std.proofs.Common.{Option, Some, None}
 use Prim.Native.Nat.{ℕ, ◌+◌, ◌≤◌, min}
 use native.Mathlib.Omega.{arith}
-use lib.ListN.{get_or}
 use lib.Dec.{eqb}
 use Rattle.operation.specs.declared.UnaryCode.{UnaryCode}
 use Rattle.operation.specs.declared.UnaryCode.TheVariants.{Conjugate}
@@ -17,30 +16,33 @@ use Rattle.tidying.specs.Units.{units_of}
 use Rattle.tidying.specs.Tidy.{is_unary, argument, Outcome, again, code_rules, first_rule, followed, joined}
 use Rattle.tidying.proofs.Rules.{joined_step}
 use Rattle.node.specs.Nodes.{end_at}
+use Rattle.mix.specs.Mix.{mix}
+use Rattle.links.specs.declared.LinkedRows.{LinkedRows}
 use Rattle.links.specs.Links.{linked}
-use Rattle.alike.specs.Alike.{Pair, Mixed, Comparable}
-use Rattle.alike.proofs.HeadsDecide.{mixed_up, other_mixes_differ}
+use Rattle.links.proofs.LinkedFrom.{row_of}
+use Rattle.alike.specs.Alike.{Comparable}
+use Rattle.alike.proofs.HeadsDecide.{other_mixes_differ}
 use Rattle.rules.specs.declared.Move.{Move}
 use Rattle.rules.specs.declared.Move.TheVariants.{Ends, Again}
 use Rattle.rules.specs.declared.Made.{Made}
 use Rattle.rules.specs.declared.Made.TheVariants as M
 use Rattle.rules.specs.Moves.{conjugates, outcome_of, From, Onward, Moved, Within, Settled}
-use Rattle.rules.proofs.Rows.{row_argument}
+use Rattle.rules.proofs.Rows.{Argument, row_argument}
 
 -- ---- moves
 
-module _ {rows : List ℕ} {l r : ℕ} (pair : Pair rows l r) where
-  pub from_left : From rows (min l r) l
-  from_left = record { from = omega arith; row = pair.first }
+module _ {t : LinkedRows} {l r : ℕ} (pair : Comparable t l r) where
+  pub from_left : From t.rows.now (min l r) l
+  from_left = record { from = omega arith; row = row_of t pair.first }
 
-  pub from_right : From rows (min l r) r
-  from_right = record { from = omega arith; row = pair.second }
+  pub from_right : From t.rows.now (min l r) r
+  from_right = record { from = omega arith; row = row_of t pair.second }
 
   -- side j is a unary: its argument e goes on, beside the other side x
   again_by : (c : BinaryCode) (d : UnaryCode) (x j : ℕ) {e : ℕ} {s : Outcome} → l + r ≡ x + j →
-      From rows (min l r) x → From rows (min l r) j →
-      is_unary d (linked rows j) ≡ true → e ≡ end_at rows j →
-      again (Binary c) (linked rows x) (argument (linked rows j)) ≡ s → Moved rows l r s (Some (Again c x e))
+      From t.rows.now (min l r) x → From t.rows.now (min l r) j →
+      is_unary d (linked t.rows.now j) ≡ true → e ≡ end_at t.rows.now j →
+      again (Binary c) (linked t.rows.now x) (argument (linked t.rows.now j)) ≡ s → Moved t.rows.now l r s (Some (Again c x e))
   again_by c d x j sum other side h is told =
       let a = row_argument side.row d h is in
       record {
@@ -53,43 +55,36 @@ module _ {rows : List ℕ} {l r : ℕ} (pair : Pair rows l r) where
       }
 
   module _ (c : BinaryCode) (d : UnaryCode) {e : ℕ} {s : Outcome} where
-    pub left_argument : is_unary d (linked rows l) ≡ true → e ≡ end_at rows l →
-        again (Binary c) (linked rows r) (argument (linked rows l)) ≡ s → Moved rows l r s (Some (Again c r e))
+    pub left_argument : is_unary d (linked t.rows.now l) ≡ true → e ≡ end_at t.rows.now l →
+        again (Binary c) (linked t.rows.now r) (argument (linked t.rows.now l)) ≡ s → Moved t.rows.now l r s (Some (Again c r e))
     left_argument h is told = again_by c d r l (omega arith) from_right from_left h is told
 
-    pub right_argument : is_unary d (linked rows r) ≡ true → e ≡ end_at rows r →
-        again (Binary c) (linked rows l) (argument (linked rows r)) ≡ s → Moved rows l r s (Some (Again c l e))
+    pub right_argument : is_unary d (linked t.rows.now r) ≡ true → e ≡ end_at t.rows.now r →
+        again (Binary c) (linked t.rows.now l) (argument (linked t.rows.now r)) ≡ s → Moved t.rows.now l r s (Some (Again c l e))
     right_argument h is told = again_by c d l r (omega arith) from_left from_right h is told
 
 -- ---- conjugates
 
-pub sides_exchanged : {rows mx : List ℕ} {a b : ℕ} → Pair rows a b × Mixed rows mx (min a b) →
-    Pair rows b a × Mixed rows mx (min b a)
-sides_exchanged {a = a} {b = b} both = (
-  record { first = both.0.second; second = both.0.first },
-  mixed_up (min a b) (min b a) (omega arith) both.1,
-)
+module _ {t : LinkedRows} {a b : ℕ} (pair : Comparable t a b) where
+  abbrev tree : ℕ → Tree
+  tree = linked t.rows.now
 
-module _ {rows : List ℕ} {a b : ℕ} (pair : Pair rows a b) where
   -- row e is the argument of row a
-  module _ (h : is_unary Conjugate (linked rows a) ≡ true) {e : ℕ} (is : e ≡ end_at rows a) where
-    pub conjugate_comparable : {mx : List ℕ} → Mixed rows mx (min a b) → Comparable rows mx e b
-    conjugate_comparable mixed =
-        let x = row_argument pair.first Conjugate h is in
-        record {
-          first = record { row = x.row; mixed = mixed_up (min a b) e (omega (arith, x.after)) mixed };
-          second = record { row = pair.second; mixed = mixed_up (min a b) b (omega arith) mixed };
-        }
+  module _ (h : is_unary Conjugate (tree a) ≡ true) {e : ℕ} (is : e ≡ end_at t.rows.now a) where
+    argument_row : Argument t.rows.now a e
+    argument_row = row_argument (row_of t pair.first) Conjugate h is
 
-    pub conjugate_told : {z : Bool} → z ≡ same (linked rows e) (linked rows b) →
-        z ≡ conjugates (linked rows a) (linked rows b)
-    conjugate_told q =
-        rw h (q ∙ ap (λ (t : Tree). same t (linked rows b)) (row_argument pair.first Conjugate h is).tree)
+    pub conjugate_comparable : Comparable t e b
+    conjugate_comparable =
+        let later = argument_row in
+        record { first = (omega (arith, pair.first.0, later.after), later.row.inside); second = pair.second }
+
+    pub conjugate_told : {z : Bool} → z ≡ same (tree e) (tree b) → z ≡ conjugates (tree a) (tree b)
+    conjugate_told q = rw h (q ∙ ap (λ (x : Tree). same x (tree b)) argument_row.tree)
 
     -- other mixes: no conjugate
-    pub conjugate_apart : {mx : List ℕ} → Mixed rows mx (min a b) → eqb (get_or mx e 0) (get_or mx b 0) ≡ false →
-        false ≡ conjugates (linked rows a) (linked rows b)
-    conjugate_apart mixed other = conjugate_told (other_mixes_differ (conjugate_comparable mixed) other)
+    pub conjugate_apart : eqb (mix (tree e)) (mix (tree b)) ≡ false → false ≡ conjugates (tree a) (tree b)
+    conjugate_apart other = conjugate_told (other_mixes_differ (tree e) (tree b) other)
 
 -- ---- the rules until none fits
 
@@ -103,28 +98,31 @@ within_less rows lo hi h (M.Alone j) w = from_less lo h w
 within_less rows lo hi h (M.Abs2 j) w = from_less lo h w
 
 -- m is what the first rule makes
-module _ (values : List ℕ) (c : BinaryCode) {rows : List ℕ} {l r : ℕ} (pair : Pair rows l r) {m : Option Move}
-    (moved : Moved rows l r (code_rules (units_of values) c (linked rows l) (linked rows r)) m) where
-  told : (k : Option Move) → m ≡ k →
-      followed (joined (units_of values)) (Binary c) (linked rows l) (linked rows r) (outcome_of (linked rows) k)
-      ≡ joined (units_of values) (Binary c) (linked rows l) (linked rows r)
-  unfolding first_rule
-  told k e = rw (← e, moved.outcome) (sym (joined_step (units_of values) (Binary c) (linked rows l) (linked rows r)))
+module _ (values : List ℕ) (c : BinaryCode) {t : LinkedRows} {l r : ℕ} (pair : Comparable t l r) {m : Option Move}
+    (moved : Moved t.rows.now l r (code_rules (units_of values) c (linked t.rows.now l) (linked t.rows.now r)) m) where
+  abbrev tidied : ℕ → Tree
+  tidied = linked t.rows.now
 
-  onward : (k : Option Move) → m ≡ k → Onward rows l r k
+  told : (k : Option Move) → m ≡ k →
+      followed (joined (units_of values)) (Binary c) (tidied l) (tidied r) (outcome_of tidied k)
+      ≡ joined (units_of values) (Binary c) (tidied l) (tidied r)
+  unfolding first_rule
+  told k e = rw (← e, moved.outcome) (sym (joined_step (units_of values) (Binary c) (tidied l) (tidied r)))
+
+  onward : (k : Option Move) → m ≡ k → Onward t.rows.now l r k
   onward k e = rw e at moved.onward
 
-  pub settled_stays : m ≡ None → Settled values rows c l r (M.Node c l r)
+  pub settled_stays : m ≡ None → Settled values t.rows.now c l r (M.Node c l r)
   settled_stays e = record { tree = told None e; within = (from_left pair, from_right pair) }
 
-  pub settled_ends : {z : Made} → m ≡ Some (Ends z) → Settled values rows c l r z
+  pub settled_ends : {z : Made} → m ≡ Some (Ends z) → Settled values t.rows.now c l r z
   settled_ends {z} e = record { tree = told (Some (Ends z)) e; within = onward (Some (Ends z)) e }
 
   module _ {d : BinaryCode} {x y : ℕ} (e : m ≡ Some (Again d x y)) where
-    pub settled_again : {z : Made} → Settled values rows d x y z → Settled values rows c l r z
+    pub settled_again : {z : Made} → Settled values t.rows.now d x y z → Settled values t.rows.now c l r z
     settled_again {z} settled =
         let o = onward (Some (Again d x y)) e in
         record {
           tree = settled.tree ∙ told (Some (Again d x y)) e;
-          within = within_less rows (min l r) (min x y) (omega (arith, o.1.from, o.2.from)) z settled.within;
+          within = within_less t.rows.now (min l r) (min x y) (omega (arith, o.1.from, o.2.from)) z settled.within;
         }

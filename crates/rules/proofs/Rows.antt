@@ -12,9 +12,9 @@ use Rattle.definitions.specs.Tree.{Tree}
 use Rattle.tidying.specs.Tidy.{is_unary, argument}
 use Rattle.node.specs.declared.Node.{Node}
 use Rattle.node.specs.declared.Node.TheVariants.{Const, Var, Unary as UnaryNode, Binary as BinaryNode}
-use Rattle.node.specs.Sides.{Sides}
+use Rattle.node.specs.Sides.{Sides, tree_over}
 use Rattle.node.specs.Nodes.{node_at, end_at}
-use Rattle.links.specs.Links.{link_tree, linked, Inside, Row}
+use Rattle.links.specs.Links.{linked, Inside, Row}
 use Rattle.links.proofs.Links.{row_side, row_tree, row_rises}
 
 -- another code has another number
@@ -23,8 +23,8 @@ other_code c d apart = ne_eqb (unary_number c) (unary_number d) (λ e. apart (un
 
 module _ (tree : ℕ → Tree) (left : ℕ) where
   -- a unary's argument is its left side
-  unary_side : (P : ℕ → Type 0) (c : UnaryCode) (x : Node) → is_unary c (link_tree tree left x) ≡ true → Sides P left x →
-      (tree left ≡ argument (link_tree tree left x)) × P left
+  unary_side : (P : ℕ → Type 0) (c : UnaryCode) (x : Node) → is_unary c (tree_over tree left x) ≡ true → Sides P left x →
+      (tree left ≡ argument (tree_over tree left x)) × P left
   unfolding Sides
   unary_side P c (Const k) h s = absurd (false≢true h)
   unary_side P c (Var p) h s = absurd (false≢true h)

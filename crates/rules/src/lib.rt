@@ -1,15 +1,19 @@
 // The rules of tidying over linked rows, in the order of builder.rs.
 #![tactic(auto)]
 
-ghost use Rattle.std.specs.Prelude.{◌≡◌, false, min};
+ghost use Rattle.std.specs.Prelude.{◌≡◌, false};
 ghost use Rattle.tidying.specs.Units.{is_unit, units_of};
 ghost use Rattle.tidying.specs.Tidy.{is_const, is_unary, times_rules, divide_rules, plus_rules, code_rules, stays};
-ghost use Rattle.links.specs.Links.{Row, linked};
-ghost use Rattle.alike.specs.Alike.{Pair, Mixed};
+ghost use Rattle.values.specs.Signs.{is_negative};
+ghost use Rattle.links.specs.Links.{linked};
+ghost use Rattle.links.specs.LinkedFrom.{Has};
+ghost use Rattle.alike.specs.Alike.{Comparable};
 ghost use Rattle.rules.specs.Moves.{goes, conjugates, Moved, Settled};
 
+use links::LinkedRows;
 use node::Node;
 use operation::{BinaryCode, One, UnaryCode};
+use values::Unit;
 
 // What an operation over two rows is in the end.
 #[derive(Clone, Copy)]
@@ -27,65 +31,64 @@ pub enum Move {
     Again(BinaryCode, u32, u32),
 }
 
-// What the rules look at: linked rows, the mixes of their trees, and the table's values.
+// What the rules look at: linked rows, and the table's values.
 #[derive(Clone, Copy)]
 pub struct Rules<'a> {
-    pub rows: &'a [u32],
-    pub mx: &'a [u64],
+    pub links: LinkedRows<'a>,
     pub values: &'a [u8],
 }
 
 impl Rules<'_> {
-    // Is row j a constant of the value 1, or −1?
-    #[tactic(auto, using(links::proofs::Links::row_tree))]
-    fn is_const(&self, j: u32, negative: bool) -> bool
-        requires { Row self.now.rows.now j }
-        ensures { result ≡ is_const (is_unit negative self.now.values.now) (linked self.now.rows.now j) }
+    // Is row j a constant of the unit's value?
+    #[tactic(auto, using(links::proofs::LinkedFrom::tree_of))]
+    fn is_const(&self, j: u32, unit: Unit) -> bool
+        requires { Has self.now.links j }
+        ensures { result ≡ is_const (is_unit (is_negative unit) self.now.values.now) (linked self.now.links.rows.now j) }
     {
-        matches!(node::unpack(self.rows, j),
-            Node::Const(k) if values::is_unit(self.values, negative, u32::from(k)))
+        matches!(self.links.get(j),
+            Node::Const(k) if values::is_unit(self.values, unit, u32::from(k)))
     }
 
     // Is it the unary of that code?
-    #[tactic(auto, using(links::proofs::Links::row_tree, crate::proofs::Rows::other_code))]
+    #[tactic(auto, using(links::proofs::LinkedFrom::tree_of, crate::proofs::Rows::other_code))]
     fn is_unary(&self, j: u32, code: UnaryCode) -> bool
-        requires { Row self.now.rows.now j }
-        ensures { result ≡ is_unary code (linked self.now.rows.now j) }
+        requires { Has self.now.links j }
+        ensures { result ≡ is_unary code (linked self.now.links.rows.now j) }
     {
-        matches!(node::unpack(self.rows, j), Node::Unary(One::Unary(c)) if c == code)
+        matches!(self.links.get(j), Node::Unary(One::Unary(c)) if c == code)
     }
 
     // Is row a the conjugate of row b?
     fn is_conjugate(&self, a: u32, b: u32) -> bool
-        requires { Pair self.now.rows.now a b × Mixed self.now.rows.now self.now.mx.now (min a b) }
-        ensures { result ≡ conjugates (linked self.now.rows.now a) (linked self.now.rows.now b) }
+        requires { Comparable self.now.links a b }
+        ensures { result ≡ conjugates (linked self.now.links.rows.now a) (linked self.now.links.rows.now b) }
     {
         self.is_unary(a, UnaryCode::Conjugate)
-            && alike::same_rows(self.rows, self.mx, node::end_of(self.rows, a), b)
+            && alike::same_rows(&self.links, self.links.left(a), b)
     }
 
     fn times_rules(&self, l: u32, r: u32) -> Option<Move>
-        requires { Pair self.now.rows.now l r × Mixed self.now.rows.now self.now.mx.now (min l r) }
-        ensures { Moved self.now.rows.now l r
-            (times_rules (units_of self.now.values.now) (linked self.now.rows.now l) (linked self.now.rows.now r)) result }
+        requires { Comparable self.now.links l r }
+        ensures { Moved self.now.links.rows.now l r
+            (times_rules (units_of self.now.values.now) (linked self.now.links.rows.now l) (linked self.now.links.rows.now r)) result }
     {
-        if self.is_const(l, true) {
+        if self.is_const(l, Unit::MinusOne) {
             return Some(Move::Ends(Made::Neg(r)));
         }
-        if self.is_const(r, true) {
+        if self.is_const(r, Unit::MinusOne) {
             return Some(Move::Ends(Made::Neg(l)));
         }
-        if self.is_const(l, false) {
+        if self.is_const(l, Unit::One) {
             return Some(Move::Ends(Made::Alone(r)));
         }
-        if self.is_const(r, false) {
+        if self.is_const(r, Unit::One) {
             return Some(Move::Ends(Made::Alone(l)));
         }
         if self.is_unary(l, UnaryCode::Recip) {
-            return Some(Move::Again(BinaryCode::Divide, r, node::end_of(self.rows, l)));
+            return Some(Move::Again(BinaryCode::Divide, r, self.links.left(l)));
         }
         if self.is_unary(r, UnaryCode::Recip) {
-            return Some(Move::Again(BinaryCode::Divide, l, node::end_of(self.rows, r)));
+            return Some(Move::Again(BinaryCode::Divide, l, self.links.left(r)));
         }
         if self.is_conjugate(r, l) {
             return Some(Move::Ends(Made::Abs2(l)));
@@ -97,26 +100,26 @@ impl Rules<'_> {
     }
 
     fn divide_rules(&self, l: u32, r: u32) -> Option<Move>
-        requires { Pair self.now.rows.now l r }
-        ensures { Moved self.now.rows.now l r
-            (divide_rules (linked self.now.rows.now l) (linked self.now.rows.now r)) result }
+        requires { Comparable self.now.links l r }
+        ensures { Moved self.now.links.rows.now l r
+            (divide_rules (linked self.now.links.rows.now l) (linked self.now.links.rows.now r)) result }
     {
         if self.is_unary(r, UnaryCode::Recip) {
-            return Some(Move::Again(BinaryCode::Times, l, node::end_of(self.rows, r)));
+            return Some(Move::Again(BinaryCode::Times, l, self.links.left(r)));
         }
         None
     }
 
     fn plus_rules(&self, l: u32, r: u32) -> Option<Move>
-        requires { Pair self.now.rows.now l r }
-        ensures { Moved self.now.rows.now l r
-            (plus_rules (linked self.now.rows.now l) (linked self.now.rows.now r)) result }
+        requires { Comparable self.now.links l r }
+        ensures { Moved self.now.links.rows.now l r
+            (plus_rules (linked self.now.links.rows.now l) (linked self.now.links.rows.now r)) result }
     {
         if self.is_unary(l, UnaryCode::Neg) {
-            return Some(Move::Again(BinaryCode::Minus, r, node::end_of(self.rows, l)));
+            return Some(Move::Again(BinaryCode::Minus, r, self.links.left(l)));
         }
         if self.is_unary(r, UnaryCode::Neg) {
-            return Some(Move::Again(BinaryCode::Minus, l, node::end_of(self.rows, r)));
+            return Some(Move::Again(BinaryCode::Minus, l, self.links.left(r)));
         }
         None
     }
@@ -124,9 +127,9 @@ impl Rules<'_> {
     // What the first rule that fits makes, if one does.
     #[tactic(auto, unfolding(operation::specs::Numbers::binary_number))]
     fn code_rules(&self, code: BinaryCode, l: u32, r: u32) -> Option<Move>
-        requires { Pair self.now.rows.now l r × Mixed self.now.rows.now self.now.mx.now (min l r) }
-        ensures { Moved self.now.rows.now l r
-            (code_rules (units_of self.now.values.now) code (linked self.now.rows.now l) (linked self.now.rows.now r)) result }
+        requires { Comparable self.now.links l r }
+        ensures { Moved self.now.links.rows.now l r
+            (code_rules (units_of self.now.values.now) code (linked self.now.links.rows.now l) (linked self.now.links.rows.now r)) result }
     {
         match code {
             BinaryCode::Times => self.times_rules(l, r),
@@ -138,27 +141,28 @@ impl Rules<'_> {
 
     // May row a be the conjugate of row b? Its argument's mix tells, nearly always.
     fn may_conjugate(&self, a: u32, b: u32) -> bool
-        requires { Pair self.now.rows.now a b × Mixed self.now.rows.now self.now.mx.now (min a b) }
-        ensures { result ≡ false → conjugates (linked self.now.rows.now a) (linked self.now.rows.now b) ≡ false }
+        requires { Comparable self.now.links a b }
+        ensures { result ≡ false → conjugates (linked self.now.links.rows.now a) (linked self.now.links.rows.now b) ≡ false }
     {
-        self.is_unary(a, UnaryCode::Conjugate)
-            && alike::same_mixes(self.mx, node::end_of(self.rows, a), b)
+        self.is_unary(a, UnaryCode::Conjugate) && self.links.same_mixes(self.links.left(a), b)
     }
 
     // Is row j a constant of the value −1 or 1, or a reciprocal?
     fn goes_away(&self, j: u32) -> bool
-        requires { Row self.now.rows.now j }
-        ensures { result ≡ goes (units_of self.now.values.now) (linked self.now.rows.now j) }
+        requires { Has self.now.links j }
+        ensures { result ≡ goes (units_of self.now.values.now) (linked self.now.links.rows.now j) }
     {
-        self.is_const(j, true) || self.is_const(j, false) || self.is_unary(j, UnaryCode::Recip)
+        self.is_const(j, Unit::MinusOne)
+            || self.is_const(j, Unit::One)
+            || self.is_unary(j, UnaryCode::Recip)
     }
 
     // May a rule fit? Where it says no, none does.
     #[tactic(auto, unfolding(operation::specs::Numbers::binary_number))]
     pub fn may_fit(&self, code: BinaryCode, l: u32, r: u32) -> bool
-        requires { Pair self.now.rows.now l r × Mixed self.now.rows.now self.now.mx.now (min l r) }
-        ensures { result ≡ false → code_rules (units_of self.now.values.now) code (linked self.now.rows.now l)
-            (linked self.now.rows.now r) ≡ stays }
+        requires { Comparable self.now.links l r }
+        ensures { result ≡ false → code_rules (units_of self.now.values.now) code (linked self.now.links.rows.now l)
+            (linked self.now.links.rows.now r) ≡ stays }
     {
         match code {
             BinaryCode::Times => {
@@ -175,8 +179,8 @@ impl Rules<'_> {
 
     // The rules until none fits.
     pub fn settle(&self, code: BinaryCode, l: u32, r: u32) -> Made
-        requires { Pair self.now.rows.now l r × Mixed self.now.rows.now self.now.mx.now (min l r) }
-        ensures { Settled self.now.values.now self.now.rows.now code l r result }
+        requires { Comparable self.now.links l r }
+        ensures { Settled self.now.values.now self.now.links.rows.now code l r result }
     {
         match self.code_rules(code, l, r) {
             None => Made::Node(code, l, r),

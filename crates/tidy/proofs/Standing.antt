@@ -15,7 +15,7 @@ use Rattle.tidying.proofs.Sizing.{nodes_are}
 use Rattle.statement.specs.declared.Row.{Row}
 use Rattle.statement.specs.declared.Row.TheVariants.{Given}
 use Rattle.statement.specs.Rows.{row_at, place_at, root_at, sheet_from}
-use Rattle.tidying.specs.Rows.{statement_rows}
+use Rattle.statement.specs.Laid.{statement_rows}
 use Rattle.tidy.specs.Relaying.{root_trees, tidy_trees, Relaid, Neat}
 
 -- these rows stand among the rows, from row j on

@@ -12,8 +12,6 @@ pub mod TidyWitness
 pub mod Tidied
 -- tidied trees fit a table as those that were read do
 pub mod Sizing
--- trees with the heads of nodes
-pub mod Heads
 -- more trees laid after others
 pub mod Forest
 -- what stands after a run of stores

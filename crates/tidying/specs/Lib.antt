@@ -2,4 +2,3 @@ pub mod Codes
 pub mod Tidy
 pub mod Arithmetic
 pub mod Units
-pub mod Rows

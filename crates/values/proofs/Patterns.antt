@@ -17,11 +17,7 @@ use borrow.Author.Tests.{eqb-true, eq-eqb, ne_eqb}
 use Rattle.definitions.specs.Sheet.{byte, number16}
 use Rattle.tidying.specs.Units.{number64, unit, is_unit}
 use Rattle.definitions.proofs.Comparing.{and_both}
-
--- the pattern of 1, and of −1
-abbrev pub pattern_of : (negative : Bool) → ℕ
-pattern_of true = 13830554455654793216
-pattern_of false = 4607182418800017408
+use Rattle.values.specs.Signs.{pattern_of}
 
 -- ---- what is equal to 1 or −1 is that float
 

@@ -2,6 +2,7 @@
 use Rattle.std.proofs.Common.{ℕ, ◌+◌, ◌*◌, get_or, arith, sym, ◌∙◌, inl, inr}
 use Rattle.node.specs.Nodes.{node_at}
 use Rattle.node.specs.declared.Node.TheVariants.{Binary}
+use Rattle.links.proofs.LinkedFrom.{row_of}
 use Rattle.alike.proofs.HeadsDecide.{other_mixes_differ, other_heads_differ, OneHead, one_head, const_rows_same}
 use Rattle.alike.proofs.HeadsDecide.{var_rows_same, unary_rows, unary_side_decides, binary_rows, exchanged, binary_sides_decide}
 use Rattle.alike.proofs.SidesDecide.{straight_decides, exchange_decides, sides_differ}
@@ -13,63 +14,67 @@ pub same_rows-returns-then-not-same_mixes : goal.same_rows-returns-then-not-same
 same_rows-returns-then-not-same_mixes t c =
     elim c.then-not-same_mixes.branch [
       | same_rows-then-not-same_mixes-via-then-not-same_mixes w ↦
-          other_mixes_differ c.requires (sym c.same_mixes.ensures ∙ w.if-not-same_mixes.true)
+          other_mixes_differ _ _ (sym c.same_mixes.ensures ∙ w.if-not-same_mixes.true)
       | same_rows-then-not-same_mixes-via-else-not-same_mixes+then-not-same_heads w ↦
-          other_heads_differ c.requires (sym w.same_heads.ensures ∙ w.if-not-same_heads.true)
+          let first = row_of c.args.links.now c.requires.first in
+          let second = row_of c.args.links.now c.requires.second in
+          other_heads_differ first second (sym w.same_heads.ensures ∙ w.if-not-same_heads.true)
     ]
 
 pub same_rows-returns-in-Const : goal.same_rows-returns-in-Const
 same_rows-returns-in-Const t c =
     let heads = sym c.same_heads.ensures ∙ c.if-not-same_heads.false in
     elim c.in-Const.is [
-      | inl h ↦ const_rows_same (one_head c.requires heads c.unpack.ensures h.1 c.end_of-l.ensures c.end_of-x.ensures)
-      | inr h ↦ var_rows_same (one_head c.requires heads c.unpack.ensures h.1 c.end_of-l.ensures c.end_of-x.ensures)
+      | inl h ↦ const_rows_same (one_head c.args.links.now c.requires heads c.get.ensures h.1 c.left-l.ensures c.left-x.ensures)
+      | inr h ↦ var_rows_same (one_head c.args.links.now c.requires heads c.get.ensures h.1 c.left-l.ensures c.left-x.ensures)
     ]
 
 pub same_rows-returns-in-Unary : goal.same_rows-returns-in-Unary
 same_rows-returns-in-Unary t c =
     let heads = sym c.same_heads.ensures ∙ c.if-not-same_heads.false in
-    unary_side_decides (one_head c.requires heads c.unpack.ensures c.in-Unary.is c.end_of-l.ensures c.end_of-x.ensures) c.same_rows.ensures
+    let one = one_head c.args.links.now c.requires heads c.get.ensures c.in-Unary.is c.left-l.ensures c.left-x.ensures in
+    unary_side_decides one c.same_rows.ensures
 
 pub same_rows-same_rows-requires : goal.same_rows-same_rows-requires
 same_rows-same_rows-requires t c =
     let heads = sym c.same_heads.ensures ∙ c.if-not-same_heads.false in
-    let side = unary_rows (one_head c.requires heads c.unpack.ensures c.in-Unary.is c.end_of-l.ensures c.end_of-x.ensures) in
-    (omega (arith, side.0, c.requires.first.row.inside), side.1)
+    let one = one_head c.args.links.now c.requires heads c.get.ensures c.in-Unary.is c.left-l.ensures c.left-x.ensures in
+    let side = unary_rows one in
+    (omega (arith, side.0, c.requires.first.1), side.1)
 
 -- over two sides
-two_heads : (t : ℕ) (c : same_rows-In-Binary t) → OneHead c.args.rows.now c.args.mx.now c.args.a c.args.b
-    (Binary c.in-Binary.o c.in-Binary.r) (node_at c.args.rows.now c.args.b) c.end_of-l.result c.end_of-x.result
-    (get_or c.args.rows.now (4 * c.args.b + 2) 0)
+two_heads : (t : ℕ) (c : same_rows-In-Binary t) → OneHead c.args.links.now c.args.a c.args.b
+    (Binary c.in-Binary.o c.in-Binary.r) (node_at c.args.links.now.rows.now c.args.b) c.left-l.result c.left-x.result
+    (get_or c.args.links.now.rows.now (4 * c.args.b + 2) 0)
 two_heads t c =
-    one_head c.requires (sym c.same_heads.ensures ∙ c.if-not-same_heads.false) c.unpack.ensures c.in-Binary.is c.end_of-l.ensures
-    c.end_of-x.ensures
+    let heads = sym c.same_heads.ensures ∙ c.if-not-same_heads.false in
+    one_head c.args.links.now c.requires heads c.get.ensures c.in-Binary.is c.left-l.ensures c.left-x.ensures
 
 pub same_rows-same_both-requires : goal.same_rows-same_both-requires
 same_rows-same_both-requires t c =
-    let sides = binary_rows (two_heads t (goal.at.same_rows-same_both-requires t c).In-Binary) c.right_of-y.ensures in
-    (omega (arith, c.requires.first.row.inside, sides.0), sides.1)
+    let sides = binary_rows (two_heads t (goal.at.same_rows-same_both-requires t c).In-Binary) c.right-y.ensures in
+    (omega (arith, c.requires.first.1, sides.0), sides.1)
 
 pub same_rows-same_both-requires-then-exchanges_sides : goal.same_rows-same_both-requires-then-exchanges_sides
 same_rows-same_both-requires-then-exchanges_sides t c =
     let heads = two_heads t (goal.at.same_rows-same_both-requires-then-exchanges_sides t c).In-Binary in
-    let sides = binary_rows heads c.right_of-y.ensures in
-    (omega (arith, c.requires.first.row.inside, sides.0), exchanged sides.1)
+    let sides = binary_rows heads c.right-y.ensures in
+    (omega (arith, c.requires.first.1, sides.0), exchanged sides.1)
 
 pub same_rows-returns-then-same_both : goal.same_rows-returns-then-same_both
 same_rows-returns-then-same_both t c =
     c.if-same_both.true
-    ∙ binary_sides_decide (two_heads t (goal.at.same_rows-returns-then-same_both t c).In-Binary) c.right_of-y.ensures
+    ∙ binary_sides_decide (two_heads t (goal.at.same_rows-returns-then-same_both t c).In-Binary) c.right-y.ensures
     (straight_decides _ _ _ _ c.in-Binary.o c.if-same_both.true c.same_both.ensures)
 
 pub same_rows-returns-then-exchanges_sides : goal.same_rows-returns-then-exchanges_sides
 same_rows-returns-then-exchanges_sides t c =
-    binary_sides_decide (two_heads t (goal.at.same_rows-returns-then-exchanges_sides t c).In-Binary) c.right_of-y.ensures
+    binary_sides_decide (two_heads t (goal.at.same_rows-returns-then-exchanges_sides t c).In-Binary) c.right-y.ensures
     (exchange_decides _ _ _ _ c.in-Binary.o c.if-same_both.false c.same_both.ensures c.if-exchanges_sides.true
     c.exchanges_sides.ensures c.same_both-then-exchanges_sides.ensures)
 
 pub same_rows-returns-else-exchanges_sides : goal.same_rows-returns-else-exchanges_sides
 same_rows-returns-else-exchanges_sides t c =
     c.if-exchanges_sides.false
-    ∙ binary_sides_decide (two_heads t (goal.at.same_rows-returns-else-exchanges_sides t c).In-Binary) c.right_of-y.ensures
+    ∙ binary_sides_decide (two_heads t (goal.at.same_rows-returns-else-exchanges_sides t c).In-Binary) c.right-y.ensures
     (sides_differ _ _ _ _ c.in-Binary.o c.if-same_both.false c.same_both.ensures c.if-exchanges_sides.false c.exchanges_sides.ensures)

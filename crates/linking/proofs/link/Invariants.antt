@@ -3,4 +3,4 @@ use Rattle.linking.proofs.Turns.{LinkedFrom}
 use Rattle.linking.proofs.link.Given as goal
 
 abbrev pub invariant-loop-i : goal.invariant-loop-i
-invariant-loop-i l = LinkedFrom l.values l.ws l.rows l.mx l.n l.i l.changed
+invariant-loop-i l = LinkedFrom l.values l.nodes.words.now l.rows l.mixes l.nodes.count l.i l.changed

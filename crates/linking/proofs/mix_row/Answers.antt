@@ -1,15 +1,17 @@
--- A row's mix comes from those of its sides, which come after it.
-use Rattle.std.proofs.Common.{rules, get_or}
+-- A row's mix comes from those of its sides, which are linked.
+use Rattle.std.proofs.Common.{rules, ◌∙◌}
+use Rattle.mix.specs.Mix.{mix}
 use Rattle.node.proofs.Sides.{sides_more}
-use Rattle.linking.proofs.Mixes.{sides_mixed, row_mixed}
+use Rattle.links.specs.Links.{linked}
+use Rattle.links.specs.LinkedFrom.{Has}
+use Rattle.linking.proofs.Mixes.{sides_mix}
 use Rattle.linking.proofs.mix_row.Goals as goal
 
 pub mix_node-requires : goal.mix_node-requires
 mix_node-requires c =
-    sides_more _ _ (λ j side. let inside = side.0 in search rules) _ _
-    (sides_mixed c.requires.0 c.requires.1 c.unpack.ensures c.end_of-left.ensures)
+    sides_more (Has c.args.links.now) _ (λ j side. let from = side.0 in let inside = side.1 in search rules) _ _ c.requires
 
 pub returns : goal.returns
 returns c =
-    row_mixed c.requires.0 c.requires.1 c.unpack.ensures c.end_of-left.ensures
-    (c.mix_node.ensures (λ j. get_or c.args.mx.now j 0) (λ j r given. search rules))
+    c.mix_node.ensures (λ j. mix (linked c.args.links.now.rows.now j)) (λ j r given. search rules)
+    ∙ sides_mix (linked c.args.links.now.rows.now) c.args.row.left c.args.row.node

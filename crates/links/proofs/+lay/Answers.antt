@@ -1,6 +1,7 @@
 -- A row is laid as its node, after its sides.
 use Rattle.std.proofs.Common.{arith, inl, inr}
-use Rattle.links.proofs.Laying.{const, var, row_read, leaf_laid, unary_fits, unary_laid, left_fits_lem, right_fits_lem, binary_laid}
+use Rattle.node.specs.Sides.{const, var}
+use Rattle.links.proofs.Laying.{row_read, leaf_laid, unary_fits, unary_laid, left_fits_lem, right_fits_lem, binary_laid}
 use Rattle.links.proofs.+lay.Goals as goal
 use Rattle.links.proofs.+lay.Goals.{in-Const, in-Unary, in-Binary}
 

@@ -3,21 +3,21 @@ use Rattle.tidy.proofs.Relaying.{none_laid, next_given, place_told, root_told, n
 use Rattle.tidy.proofs.lay_all.Goals as goal
 use Rattle.tidy.proofs.lay_all.Goals.{in-Given, in_default}
 
-pub loop-k-init : goal.loop-k-init
-loop-k-init c = none_laid _ _ _
+pub loop-row-init : goal.loop-row-init
+loop-row-init c = none_laid _ _ _
 
 pub lay-m-requires : goal.lay-m-requires
 lay-m-requires c =
-    rw (root_told c.requires c.loop-k.invariant c.loop-k-test.true c.in-Given.is)
-    (next_fits c.requires c.loop-k.invariant c.loop-k-test.true)
+    rw (root_told c.requires c.loop-row.invariant c.loop-row-test.true c.in-Given.is)
+    (next_fits c.requires c.loop-row.invariant c.loop-row-test.true)
 
-pub loop-k-preserved : goal.loop-k-preserved
-loop-k-preserved c =
-    elim c.match-rows-k.branch [
+pub loop-row-preserved : goal.loop-row-preserved
+loop-row-preserved c =
+    elim c.match-row.branch [
       | in-Given w ↦
-          let place = place_told c.requires c.loop-k.invariant c.loop-k-test.true w.in-Given.is in
-          let root = root_told c.requires c.loop-k.invariant c.loop-k-test.true w.in-Given.is in
+          let place = place_told c.requires c.loop-row.invariant c.loop-row-test.true w.in-Given.is in
+          let root = root_told c.requires c.loop-row.invariant c.loop-row-test.true w.in-Given.is in
           rw (w.ws-is, w.rows-is, w.m-is, place)
-          (next_laid c.requires c.loop-k.invariant c.loop-k-test.true (rw root at w.lay-m.ensures))
-      | in_default w ↦ absurd (w.in_default.not-Given _ _ (next_given c.requires c.loop-k.invariant c.loop-k-test.true))
+          (next_laid c.requires c.loop-row.invariant c.loop-row-test.true (rw root at w.lay-m.ensures))
+      | in_default w ↦ absurd (w.in_default.not-Given _ _ (next_given c.requires c.loop-row.invariant c.loop-row-test.true))
     ]

@@ -10,5 +10,5 @@ use Rattle.rules.proofs.Rules.divide_rules.Goals as goal
 pub returns-then-is_unary : goal.returns-then-is_unary
 returns-then-is_unary c =
     let is = sym c.if-is_unary.ensures in
-    let chain = divide_chain_lem (linked c.args.self.now.rows.now c.args.l) (linked c.args.self.now.rows.now c.args.r) in
-    right_argument c.requires Times Recip is c.end_of.ensures (first_fits chain is)
+    let chain = divide_chain_lem (linked c.args.self.now.links.rows.now c.args.l) (linked c.args.self.now.links.rows.now c.args.r) in
+    right_argument c.requires Times Recip is c.left.ensures (first_fits chain is)

@@ -4,7 +4,7 @@ use Rattle.rules.proofs.Moves.{conjugate_comparable, conjugate_told}
 use Rattle.rules.proofs.Rules.is_conjugate.Goals as goal
 
 pub same_rows-requires : goal.same_rows-requires
-same_rows-requires c = conjugate_comparable c.requires.0 (sym c.if-is_unary.ensures) c.end_of.ensures c.requires.1
+same_rows-requires c = conjugate_comparable c.requires (sym c.if-is_unary.ensures) c.left.ensures
 
 pub returns-then-is_unary : goal.returns-then-is_unary
-returns-then-is_unary c = conjugate_told c.requires.0 (sym c.if-is_unary.ensures) c.end_of.ensures c.same_rows.ensures
+returns-then-is_unary c = conjugate_told c.requires (sym c.if-is_unary.ensures) c.left.ensures c.same_rows.ensures

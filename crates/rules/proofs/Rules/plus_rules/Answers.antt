@@ -10,12 +10,12 @@ use Rattle.rules.proofs.Rules.plus_rules.Goals as goal
 pub returns-then-is_unary : goal.returns-then-is_unary
 returns-then-is_unary c =
     let is = sym c.if-is_unary.ensures in
-    let chain = plus_chain_lem (linked c.args.self.now.rows.now c.args.l) (linked c.args.self.now.rows.now c.args.r) in
-    left_argument c.requires Minus Neg is c.end_of.ensures (first_fits chain is)
+    let chain = plus_chain_lem (linked c.args.self.now.links.rows.now c.args.l) (linked c.args.self.now.links.rows.now c.args.r) in
+    left_argument c.requires Minus Neg is c.left.ensures (first_fits chain is)
 
 pub returns-then-is_unary-2 : goal.returns-then-is_unary-2
 returns-then-is_unary-2 c =
     let is = sym c.if-is_unary-2.ensures in
-    let chain = plus_chain_lem (linked c.args.self.now.rows.now c.args.l) (linked c.args.self.now.rows.now c.args.r) in
+    let chain = plus_chain_lem (linked c.args.self.now.links.rows.now c.args.l) (linked c.args.self.now.links.rows.now c.args.r) in
     let rest = first_fails chain (sym c.if-is_unary.ensures) in
-    right_argument c.requires Minus Neg is c.end_of-then-is_unary-2.ensures (first_fits rest is)
+    right_argument c.requires Minus Neg is c.left-then-is_unary-2.ensures (first_fits rest is)
