@@ -7,9 +7,10 @@ use mathlib.Core.Option as maybe
 use Prim.Native.Nat.{ℕ, zero, suc, ◌+◌, ◌-◌, ◌<◌, ◌≤◌}
 use native.Mathlib.Omega.{arith}
 use Rattle.std.proofs.Common.{Option, None, Some}
-use Rattle.std.specs.Option.{option_or}
+use Rattle.std.specs.Option.{option_or, SomeIff}
 use lib.ListN.{get_or, set, length-set}
 use Rattle.limits.specs.Limits.{temporary_limit}
+use Rattle.limits.specs.Words.{word_of}
 use Rattle.symbol.specs.declared.Loc.{Loc}
 use Rattle.definitions.specs.Tree.{Tree}
 use Rattle.definitions.specs.Same.{same}
@@ -141,18 +142,20 @@ module _ {ws ms : List ℕ} {rs : List Row} {i key count v : ℕ} {answer : Opti
   searched_on = rows_past (x.high - v) v (omega arith) (omega (arith, x.here.below))
 
   -- the last row of the chain: what it says is put before the answer so far
-  module _ (more : v ≢ 0) where
-    abbrev last : ℕ
-    last = v - 1
-
+  module _ (last : ℕ) (more : v ≡ last + 1) where
     pub chain_within : last < count
     chain_within = omega (arith, more, x.here.below, x.within)
 
+    back : v - 1 ≡ last
+    back = omega (arith, more)
+
     chain_linked : HasLink rs last
-    chain_linked = x.here.linked (omega (arith, more))
+    chain_linked = rw back at (x.here.linked (omega (arith, more)))
 
     chain_goes : LastOf by.mix_at rs (slot by.mix) last (link_at rs last) × (key_at rs last ≡ key_of (by.mix_at last))
-    chain_goes = rw (x.here.own (omega (arith, more))) at (by.goes last chain_within chain_linked)
+    chain_goes =
+        let own : slot (by.mix_at last) ≡ slot by.mix = rw back at (x.here.own (omega (arith, more))) in
+        rw own at (by.goes last chain_within chain_linked)
 
     pub chain_asked : RoomFor rs count → RowAsked ws ms rs i key last
     chain_asked room =
@@ -169,7 +172,7 @@ module _ {ws ms : List ℕ} {rs : List Row} {i key count v : ℕ} {answer : Opti
     pub chain_next : {hit z : Option ℕ} {w : ℕ} → CallFound ws ms i (row_at rs last ∷ []) hit → z ≡ option_or hit answer →
         w ≡ link_at rs last → Searched ws ms rs i key count w z
     chain_next {hit} found-here ez ew =
-        let up : last + 1 ≡ v = omega (arith, more) in
+        let up : last + 1 ≡ v = sym more in
         rw (ez, ew)
         record {
           asked = x.asked;
@@ -202,6 +205,12 @@ search_starts {ws} {ms} rs {i} count r s =
       own = r.own;
       past = rw none_left (none_found ws ms i);
     }
+
+-- ---- a link as an option
+
+pub word_is : (r : Option ℕ) (m : ℕ) → SomeIff r (1 ≤ m) (m - 1) → word_of r ≡ m
+word_is None m h = omega (arith, h)
+word_is (Some k) m h = omega (arith, h.0, h.1)
 
 -- ---- a call at a node of a table
 
@@ -258,16 +267,14 @@ module _ {sharing : Bool} {ws : List ℕ} {n i : ℕ} {p : Progress} (t : Table 
     broken_found h =
         rw on (found refl (h.low p.state.next ready.named) (λ temporary f. h.is temporary (ready_fresh f)))
 
-    pub broken_made : {p' : Progress} {key k : ℕ} → CallFound ws p.marks i (rows_of p) None → key ≡ key_of m →
-        k ≡ p.state.next →
-        p' ≡ with_call (with_heads p (set p.heads at (p.state.count + 1))) i (get_or p.heads at 0) key →
-        CallBroken sharing ws n i p p' k
-    broken_made {p'} {key} h k answer put =
-        let heads = set p.heads at (p.state.count + 1) in
+    pub broken_made : {p' : Progress} {heads : List ℕ} {link key k : ℕ} → CallFound ws p.marks i (rows_of p) None → key ≡ key_of m →
+        k ≡ p.state.next → link ≡ get_or p.heads at 0 → heads ≡ set p.heads at (p.state.count + 1) →
+        p' ≡ with_call (with_heads p heads) i link key → CallBroken sharing ws n i p p' k
+    broken_made {p' = p'} {heads = heads} {link = link} {key = key} h is answer linked begun put =
         rw on
-        (made (get_or p.heads at 0) key heads answer put (λ temporary f. h.is temporary (ready_fresh f))
-        (length-set p.heads at (p.state.count + 1))
-        (λ shared. rw (put, e, k) (keyed_called i m p.state.next ready.room ours keyed)))
+        (made link key heads answer put (λ temporary f. h.is temporary (ready_fresh f))
+        (rw begun (length-set p.heads at (p.state.count + 1)))
+        (λ shared. rw (put, linked, begun, e, is) (keyed_called i m p.state.next ready.room ours keyed)))
 
 -- a search along a chain
 pub ruleset along_chain = (search_starts, chain_within, chain_falls, chain_next)

@@ -1,5 +1,5 @@
 -- How far trimming has come, as its code and its definitions see it.
-use Rattle.std.specs.Prelude.{◌≡◌, ℕ, ◌+◌, ◌<◌, List, set, Option, None, Some}
+use Rattle.std.specs.Prelude.{◌≡◌, ℕ, ◌+◌, ◌<◌, List, set}
 use Rattle.limits.specs.Limits.{row_limit}
 use Rattle.statement.specs.declared.Row.{Row}
 use Rattle.statement.specs.declared.State.{State}
@@ -18,7 +18,7 @@ progress marks rows heads s = record { marks = marks; rows = rows; heads = heads
 
 -- what a trimmer has come to
 abbrev pub progress_of : Trimmer → Progress
-progress_of t = progress t.marks.now t.rows.now t.heads.now t.state
+progress_of t = progress t.marks.now.words t.rows.now t.heads.now.words t.state
 
 -- the rows so far
 abbrev pub rows_of : Progress → List Row
@@ -34,15 +34,11 @@ pub record RowReady (p : Progress) : Type 0 where
   pub room : RoomFor p.rows (p.state.count + 1)
   pub few : p.state.count < row_limit
 
--- a trimmer goes by the same nodes and settings as before, and writes to the same arrays
+-- a trimmer goes by the same nodes and settings as before, and writes to the same arrays: beside each clause, since a relation of two
+-- states can't stand in a type
 pub record SameTrimmer (old new : Trimmer) : Type 0 where
   pub nodes : new.nodes ≡ old.nodes
   pub settings : new.settings ≡ old.settings
   pub marks : new.marks.ghost_name ≡ old.marks.ghost_name
   pub rows : new.rows.ghost_name ≡ old.rows.ghost_name
   pub heads : new.heads.ghost_name ≡ old.heads.ghost_name
-
--- a node's mark: 0, or 1 + the number of its temporary
-abbrev pub mark_of : Option ℕ → ℕ
-mark_of None = 0
-mark_of (Some k) = k + 1

@@ -1,15 +1,17 @@
 // Calls: an earlier one that is the same is sought, and a new one gets a row and a temporary.
 #![tactic(auto)]
 
-ghost use Rattle.std.specs.Prelude.{◌≡◌, ◌∷◌, [], ◌+◌, ◌<◌};
-ghost use Rattle.limits.specs.Limits.{temporary_limit};
+ghost use Rattle.std.specs.Prelude.{◌≡◌, ◌∷◌, [], ◌+◌, ◌<◌, ◌≤◌};
+ghost use Rattle.limits.specs.Limits.{row_limit, temporary_limit};
+ghost use Rattle.limits.specs.Words.{word_of};
 ghost use Rattle.statement.specs.Rows.{RoomFor, row_at, rows_from};
 ghost use Rattle.calls.specs.Index.{slot, key_of, SeekReady};
 ghost use Rattle.calls.specs.Progress.{progress_of, with_row, RowReady, SameTrimmer};
 ghost use Rattle.calls.specs.Calls.{CallSought, CallFound, RowAsked, CallReady, with_call, CallBroken};
 
 use compare::Trees;
-use limits::{NODES, PerNode};
+use header::Header;
+use limits::{NODES, Options};
 use node::NodeTable;
 use statement::{Row, State};
 
@@ -20,15 +22,28 @@ pub struct Settings {
     pub sharing: bool,
 }
 
-// Trimming as far as it has come: each node's mark, 0 or 1 + its temporary; the rows; 1 + the last row of each chain of calls, or 0.
-// Marks and heads stay numbers: 1,024 options take twice as long to clear, on each call.
+impl From<Header> for Settings {
+    ghost use Rattle.calls.specs.Going.{settings_of};
+
+    ghost from_gives = { λ h s. s ≡ settings_of h };
+
+    fn from(header: Header) -> Settings {
+        Settings {
+            scratch: header.scratch,
+            sharing: header.sharing,
+        }
+    }
+}
+
+// Trimming as far as it has come: the temporary of each node that has a mark; the rows, lent in an array that the state counts (fixed
+// memory: there is no heap for as many as there are); the last row of each chain of calls.
 #[derive(Drop)]
 pub struct Trimmer<'a> {
     pub nodes: NodeTable<'a>,
     pub settings: Settings,
-    pub marks: &'a mut PerNode,
+    pub marks: &'a mut Options,
     pub rows: &'a mut [Row],
-    pub heads: &'a mut PerNode,
+    pub heads: &'a mut Options,
     pub state: State,
 }
 
@@ -48,19 +63,19 @@ fn key_of(m: u64) -> u32
 impl Trimmer<'_> {
     // The trees as the marks show them so far.
     fn trees(&self) -> Trees<'_>
-        ensures words { result.words.now ≡ self.now.nodes.words.now }
+        ensures nodes { result.nodes ≡ self.now.nodes }
         ensures marks { result.marks.now ≡ self.now.marks.now }
     {
         Trees {
-            words: self.nodes.words,
+            nodes: self.nodes,
             marks: self.marks,
         }
     }
 
     // The temporary of row k, if it makes the same call as node i. Trees are compared only where the keys agree.
     fn hits(&self, i: u32, key: u32, k: u32) -> Option<u32>
-        requires { RowAsked self.now.nodes.words.now self.now.marks.now self.now.rows.now i key k }
-        ensures { CallFound self.now.nodes.words.now self.now.marks.now i (row_at self.now.rows.now k ∷ []) result }
+        requires { RowAsked self.now.nodes.words.now self.now.marks.now.words self.now.rows.now i key k }
+        ensures { CallFound self.now.nodes.words.now self.now.marks.now.words i (row_at self.now.rows.now k ∷ []) result }
     {
         let row = self.rows[k as usize];
         match row {
@@ -76,16 +91,17 @@ impl Trimmer<'_> {
 
     // The temporary of the first row that makes the same call as node i: by the links of its chain, from its last row.
     #[tactic(auto, using(crate::proofs::Search::along_chain))]
-    fn seek(&self, i: u32, last: u32, key: u32) -> Option<u32>
-        requires ready { SeekReady self.now.nodes.words.now self.now.marks.now self.now.rows.now i last key self.now.state.count }
+    fn seek(&self, i: u32, last: Option<u32>, key: u32) -> Option<u32>
+        requires ready { SeekReady self.now.nodes.words.now self.now.marks.now.words self.now.rows.now i (word_of last) key
+            self.now.state.count }
         requires sought { CallSought self.now.nodes.words.now i (rows_from self.now.rows.now 0 self.now.state.count) }
         requires room { RoomFor self.now.rows.now self.now.state.count }
-        ensures { CallFound self.now.nodes.words.now self.now.marks.now i
+        ensures { CallFound self.now.nodes.words.now self.now.marks.now.words i
             (rows_from self.now.rows.now 0 self.now.state.count) result }
     {
         let mut found = None;
         let mut link = last;
-        while let Some(k) = link.checked_sub(1) {
+        while let Some(k) = link {
             found = self.hits(i, key, k).or(found);
             link = self.rows[k as usize].link();
         }
@@ -102,19 +118,20 @@ impl Trimmer<'_> {
         self.state.count += 1;
     }
 
-    // A row for the call of node i, with its key, linked to another of its chain, and the next temporary.
-    fn new_call(&mut self, i: u32, link: u32, key: u32) -> u32
+    // A row for the call of node i, with its key, linked to another of its chain if there is one, and the next temporary.
+    fn new_call(&mut self, i: u32, link: Option<u32>, key: u32) -> u32
         requires room { RowReady (progress_of self.old) }
         requires low { self.old.state.next < temporary_limit }
+        requires linked { word_of link ≤ row_limit }
         ensures same { SameTrimmer self.old self.new }
         ensures answer { result ≡ self.old.state.next }
-        ensures put { progress_of self.new ≡ with_call (progress_of self.old) i link key }
+        ensures put { progress_of self.new ≡ with_call (progress_of self.old) i (word_of link) key }
     {
         let next = self.state.next;
         self.put(Row::Made {
             temporary: next,
             root: i,
-            link,
+            link: link.map_or(0, |k| k + 1),
             key,
         });
         self.state.next += 1;
@@ -130,16 +147,16 @@ impl Trimmer<'_> {
             (progress_of self.old) (progress_of self.new) result }
     {
         if !self.settings.sharing {
-            return self.new_call(i, 0, 0);
+            return self.new_call(i, None, 0);
         }
         let m = keys::mix_seen(&self.trees(), i);
-        let at = slot_of(m) as usize;
-        let link = self.heads[at];
+        let at = slot_of(m);
+        let link = self.heads.get(at);
         let key = key_of(m);
         match self.seek(i, link, key) {
             Some(temporary) => temporary,
             None => {
-                self.heads[at] = self.state.count + 1;
+                self.heads.set(at, Some(self.state.count));
                 self.new_call(i, link, key)
             }
         }

@@ -3,6 +3,7 @@ use mathlib.Core.Path.{◌≡◌, refl, sym, ap}
 use mathlib.Core.List.{List}
 use Prim.Native.Nat.{ℕ, ◌<◌, ◌≤◌}
 use native.Mathlib.Omega.{arith}
+use Rattle.limits.specs.Words.{word_of}
 use Rattle.std.proofs.Common.{Option, None, Some}
 use Rattle.symbol.specs.declared.Loc.{Loc}
 use Rattle.definitions.specs.Tree.{variable}
@@ -12,7 +13,6 @@ use Rattle.statement.specs.declared.Row.{Row}
 use Rattle.statement.specs.declared.Row.TheVariants.{Given, Copied, Kept, Passed}
 use Rattle.statement.specs.Rows.{row_statement}
 use Rattle.statement.specs.Rowing.{OnRoot, Unmade, NumberedBelow}
-use Rattle.calls.specs.Progress.{mark_of}
 use Rattle.trim.specs.Sheet.{closed}
 use Rattle.trim.proofs.Calling.{masked_marked}
 
@@ -22,15 +22,15 @@ pub record TreeRow (row : Row) (i : ℕ) : Type 1 where
   pub whole : (temporary : ℕ → Loc) (ws ms : List ℕ) →
       row_statement temporary ws ms row ≡ assign (place temporary) (seen temporary ws ms i)
   pub shut : (r : Option ℕ) (temporary : ℕ → Loc) (ws ms : List ℕ) →
-      row_statement temporary ws ms (closed row r) ≡ assign (place temporary) (masked temporary (mark_of r) (seen temporary ws ms i))
+      row_statement temporary ws ms (closed row r) ≡ assign (place temporary) (masked temporary (word_of r) (seen temporary ws ms i))
   pub out : (P : ℕ → Type 0) → OnRoot P row → P i
   pub root : (r : Option ℕ) (P : ℕ → Type 0) → P i → OnRoot P (closed row r)
-  pub low : (r : Option ℕ) (next : ℕ) → mark_of r ≤ next → NumberedBelow next row → NumberedBelow next (closed row r)
+  pub low : (r : Option ℕ) (next : ℕ) → word_of r ≤ next → NumberedBelow next row → NumberedBelow next (closed row r)
   pub unmade : (r : Option ℕ) → Unmade (closed row r)
 
 module _ (q : Loc) (i : ℕ) where
   given_shut : (r : Option ℕ) (temporary : ℕ → Loc) (ws ms : List ℕ) →
-      row_statement temporary ws ms (closed (Given q i) r) ≡ assign q (masked temporary (mark_of r) (seen temporary ws ms i))
+      row_statement temporary ws ms (closed (Given q i) r) ≡ assign q (masked temporary (word_of r) (seen temporary ws ms i))
   given_shut None temporary ws ms = refl
   given_shut (Some k) temporary ws ms = ap (assign q) (sym (masked_marked temporary (seen temporary ws ms i) k))
 
@@ -38,7 +38,7 @@ module _ (q : Loc) (i : ℕ) where
   given_root None P h = h
   given_root (Some k) P h = tt
 
-  given_low : (r : Option ℕ) (next : ℕ) → mark_of r ≤ next → NumberedBelow next (closed (Given q i) r)
+  given_low : (r : Option ℕ) (next : ℕ) → word_of r ≤ next → NumberedBelow next (closed (Given q i) r)
   given_low None next l = tt
   given_low (Some k) next l = omega arith
 
@@ -61,7 +61,7 @@ module _ (q : Loc) (i : ℕ) where
 module _ (m i : ℕ) where
   kept_shut : (r : Option ℕ) (temporary : ℕ → Loc) (ws ms : List ℕ) →
       row_statement temporary ws ms (closed (Kept m i) r)
-      ≡ assign (temporary m) (masked temporary (mark_of r) (seen temporary ws ms i))
+      ≡ assign (temporary m) (masked temporary (word_of r) (seen temporary ws ms i))
   kept_shut None temporary ws ms = refl
   kept_shut (Some k) temporary ws ms = ap (assign (temporary m)) (sym (masked_marked temporary (seen temporary ws ms i) k))
 
@@ -69,7 +69,7 @@ module _ (m i : ℕ) where
   kept_root None P h = h
   kept_root (Some k) P h = tt
 
-  kept_low : (r : Option ℕ) (next : ℕ) → mark_of r ≤ next → m < next → NumberedBelow next (closed (Kept m i) r)
+  kept_low : (r : Option ℕ) (next : ℕ) → word_of r ≤ next → m < next → NumberedBelow next (closed (Kept m i) r)
   kept_low None next l h = h
   kept_low (Some k) next l h = (h, omega arith)
 

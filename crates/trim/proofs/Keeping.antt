@@ -28,7 +28,7 @@ use Rattle.calls.specs.Progress.{Progress, rows_of}
 use Rattle.trim.specs.Trimming.{Sound, TrimReady, Gathered}
 use Rattle.trim.specs.Joining.{kept}
 use Rattle.trim.proofs.StillRows.{still_statements, still_since}
-use Rattle.trim.proofs.NodesUnmarked.{bare_marked, zeros_set}
+use Rattle.statement.proofs.NodesUnmarked.{bare_marked, zeros_set}
 use Rattle.trim.proofs.Calling.{masked_marked}
 use Rattle.trim.proofs.Gathering.{TwoSided, long_put, table_put, sound_since}
 

@@ -5,9 +5,10 @@ use Prim.Native.Nat.{ℕ}
 use native.Mathlib.Omega.{arith}
 use Rattle.std.proofs.Common.{Option}
 use lib.ListN.{get_or}
+use Rattle.limits.specs.Words.{word_of}
 use Rattle.symbol.specs.declared.Loc.{Loc}
 use Rattle.calls.specs.declared.Settings.{Settings}
-use Rattle.calls.specs.Progress.{Progress, RowReady, mark_of}
+use Rattle.calls.specs.Progress.{Progress, RowReady}
 use Rattle.definitions.specs.Tree.{ershov}
 use Rattle.definitions.specs.Trim.{trim}
 use Rattle.node.specs.Views.{masked, seen, view}
@@ -31,7 +32,7 @@ module _ {h : Settings} {ws : List ℕ} {n : ℕ} {p : Progress} {row : Row} (re
     pub given_trimmed : {p' : Progress} {a : Answer} → ViewTrimmed h ws n i p p' a → PartTrimmed h ws n p p' row a.temporary
     given_trimmed {p'} {a} x =
         let named : (temporary : ℕ → Loc) →
-        view temporary ws p'.marks i ≡ masked temporary (mark_of a.temporary) (seen temporary ws p'.marks i) =
+        view temporary ws p'.marks i ≡ masked temporary (word_of a.temporary) (seen temporary ws p'.marks i) =
         λ temporary. ap (λ (m : ℕ). masked temporary m (seen temporary ws p'.marks i)) (sym x.named) in
         rw told
         record {
@@ -61,7 +62,7 @@ module _ {h : Settings} {ws : List ℕ} {n : ℕ} {p : Progress} {row : Row} (re
         rw told
         record {
           er = a.ershov;
-          left = mark_of a.temporary;
+          left = word_of a.temporary;
           tree = x;
           cost = omega (arith, x.so.counted);
           mark = x.so.mark;

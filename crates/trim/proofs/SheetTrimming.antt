@@ -7,6 +7,7 @@ use native.Mathlib.Omega.{arith}
 use Rattle.std.proofs.Common.{Option}
 use lib.ListN.{length, get_or}
 use Rattle.limits.specs.Limits.{row_limit}
+use Rattle.limits.specs.Words.{word_of}
 use Rattle.symbol.specs.declared.Loc.{Loc}
 use Rattle.calls.specs.declared.Settings.{Settings}
 use Rattle.definitions.specs.Tree.{variable}
@@ -23,7 +24,7 @@ use Rattle.statement.specs.Rowing.{All, OnRoot, OnGiven, Unmade, NumberedBelow, 
 use Rattle.statement.specs.Handover.{Owned, Unmarked, SheetEliminated, SheetTrimmed}
 use Rattle.statement.proofs.RowsPut.{statements_append}
 use Rattle.calls.proofs.Keying.{keyed_none}
-use Rattle.calls.specs.Progress.{Progress, progress, with_row, rows_of, mark_of}
+use Rattle.calls.specs.Progress.{Progress, progress, with_row, rows_of}
 use Rattle.trim.specs.Trimming.{InScratch, read_of, Sound, TrimReady}
 use Rattle.trim.specs.Sheet.{closed, OnPart, RowToTrim, RootTrimmed, PartTrimmed, RowTrimmed}
 use Rattle.statement.proofs.EveryRow.{all_none, all_one, all_append, root_map, root_both, given_both, below_up, statements_first}
@@ -188,7 +189,7 @@ module _ {h : Settings} {ws ms₀ : List ℕ} {er : List Row} {n : ℕ} {s₀ : 
 
         read' : (temporary : ℕ → Loc) → read_of temporary ws p'
             ≡ (read_of temporary ws p ++ statements_of temporary ws m.marks new)
-            ++ (assign (f.place temporary) (masked temporary (mark_of t) (seen temporary ws m.marks i)) ∷ [])
+            ++ (assign (f.place temporary) (masked temporary (word_of t) (seen temporary ws m.marks i)) ∷ [])
         unfolding statements_of
         read' temporary =
             ap (statements_of temporary ws m.marks) table' ∙ statements_append temporary ws m.marks (rows_of m) (put ∷ [])

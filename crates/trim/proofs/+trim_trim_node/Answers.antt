@@ -20,7 +20,7 @@ trim-trim_node-a-requires t c =
 
 pub trim-returns-clause-trimmed : goal.trim-returns-clause-trimmed
 trim-returns-clause-trimmed t c =
-    rw c.mark_of.ensures
+    rw c.set.ensures
     (view_marks _ c.args.t.now.nodes.table c.requires (omega (arith, c.in_default.ensures)) c.trim_node-a.ensures.trimmed)
 
 -- ---- a leaf

@@ -6,4 +6,4 @@ use Rattle.trim.proofs.trim_statements.Given as goal
 abbrev pub invariant-loop-row : goal.invariant-loop-row
 invariant-loop-row l =
     SameTrimmer l.initial.t l.t
-    × TrimmedSoFar l.fn.settings l.fn.nodes.words.now l.fn.marks l.fn.shared l.fn.nodes.count l.fn.s (progress_of l.t) l.row-index
+    × TrimmedSoFar l.fn.settings l.fn.nodes.words.now l.fn.marks.words l.fn.shared l.fn.nodes.count l.fn.s (progress_of l.t) l.row-index
