@@ -1,18 +1,18 @@
-use Rattle.trim.proofs.FirstRows.{first_rows}
-use Rattle.builder.proofs.FirstStep.{rows_refused, rows_trimmed}
+-- Check 8 of the trimmed rows refuses them, or they are what the first step gives.
+use Rattle.builder.proofs.FirstStep.{rows_listable, rows_refused, rows_trimmed}
 use Rattle.builder.proofs.Sheet.trim_rows.Goals as goal
 
-pub too_wide-requires-clause-placed : goal.too_wide-requires-clause-placed
-too_wide-requires-clause-placed c =
-    let put = c.trim_statements-s.ensures.trimmed in
-    rw (first_rows _ _ put.long) put.placed
+pub is_too_wide-requires : goal.is_too_wide-requires
+is_too_wide-requires c =
+    let put = rw c.from-settings.ensures at c.trim_statements-s.ensures.trimmed in
+    rows_listable _ _ _ _ _ _ put c.ershovs.ensures
 
-pub returns-then-too_wide : goal.returns-then-too_wide
-returns-then-too_wide c =
-    let put = rw c.settings.ensures at c.trim_statements-s.ensures.trimmed in
-    rows_refused _ _ _ _ _ _ c.requires.handed _ _ _ put _ c.ershovs.ensures _ c.too_wide.ensures c.if-too_wide.true
+pub returns-then-is_too_wide-clause-trimmed : goal.returns-then-is_too_wide-clause-trimmed
+returns-then-is_too_wide-clause-trimmed c =
+    let put = rw c.from-settings.ensures at c.trim_statements-s.ensures.trimmed in
+    rows_refused _ _ _ _ _ _ put c.ershovs.ensures _ c.is_too_wide.ensures c.if-is_too_wide.true
 
-pub returns : goal.returns
-returns c =
-    let put = rw c.settings.ensures at c.trim_statements-s.ensures.trimmed in
-    rows_trimmed _ _ _ _ _ _ c.requires.handed _ _ _ put _ c.ershovs.ensures _ c.too_wide.ensures c.if-too_wide.false
+pub returns-clause-trimmed : goal.returns-clause-trimmed
+returns-clause-trimmed c =
+    let put = rw c.from-settings.ensures at c.trim_statements-s.ensures.trimmed in
+    rows_trimmed _ _ _ _ _ _ put c.ershovs.ensures _ c.is_too_wide.ensures c.if-is_too_wide.false
