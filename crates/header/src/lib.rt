@@ -2,8 +2,7 @@
 #![tactic(auto)]
 
 ghost use Rattle.std.specs.Prelude.{◌≡◌, ◌+◌, ◌<◌, ◌≤◌, length};
-ghost use Rattle.definitions.specs.Sheet.{number16 as number_at, word32 as word_at, flag};
-ghost use Rattle.operation.specs.Operators.{whole_of};
+ghost use Rattle.definitions.specs.Sheet.{number16 as number_at, flag};
 ghost use Rattle.header.specs.Settings.{header_of, temporary_of, Indexed};
 
 use symbol::Loc;
@@ -20,20 +19,13 @@ pub struct Header {
     pub count: u32,
 }
 
-// Little-endian. A function for each width, as values has number64: from_le_bytes is each type's own, and no trait's, so one function of
-// all widths would take it as a parameter, and its callers would spell the width all the same.
+// Little-endian. A function of this width alone, as values has number64: from_le_bytes is each type's own, and no trait's, so one
+// function of both would take it as a parameter, and its callers would spell the width all the same.
 pub fn number16(s: &[u8], at: usize) -> u16
     requires { at + 1 < length s.now }
     ensures { result ≡ number_at s.now at }
 {
     u16::from_le_bytes([s[at], s[at + 1]])
-}
-
-pub fn number32(s: &[u8], at: usize) -> u32
-    requires { at + 3 < length s.now }
-    ensures { result ≡ whole_of (word_at s.now at) }
-{
-    u32::from_le_bytes([s[at], s[at + 1], s[at + 2], s[at + 3]])
 }
 
 fn has_flag(file: &[u8], bit: u8) -> bool

@@ -44,11 +44,13 @@ pub const LINE: usize = 128;
 
 pub const TEXT: usize = LINE * (WORK / 6 + 1);
 
-// A word for each node, or for each of as many temporaries.
+// A word for each node, or for each of as many temporaries. A clause says its length where a proof needs it: the check knows it only
+// where an index is used.
 pub type PerNode = [u32; NODES];
 
 // An optional number for each node, or for each of as many chains: a word each, 0 or 1 + the number, as get reads and set writes it.
-// Options themselves take twice the memory, which is fixed, and half as long again to clear on each call (tried).
+// Options themselves take 12 KB more of a call's stack (fixed memory), as the words of the chains are lent on for other numbers.
+// A row's link and the words of the index are such words too: a type of one word would be packed and unpacked just where they are.
 #[derive(Drop)]
 pub struct Options {
     pub words: PerNode,

@@ -80,11 +80,11 @@ fn holds(mut text: Cursor) -> bool
     asked(text, &file[..n])
 }
 
-// Names a vector that does not hold, if it is among the first ten.
-fn tell(number: usize, wrong: usize) {
-    if wrong <= 10 {
+// Names the vector that was counted last, which does not hold, if it is among the first ten such.
+fn tell(t: Tally) {
+    if t.wrong <= 10 {
         io::write_all(1, b"vector ");
-        io::print_decimal(1, number as u64);
+        io::print_decimal(1, t.count as u64);
         io::write_all(1, b" differs\n");
     }
 }
@@ -108,7 +108,7 @@ fn replay(all: &[u8]) -> Tally
         t.count += 1;
         if !holds(text) {
             t.wrong += 1;
-            tell(t.count, t.wrong);
+            tell(t);
         }
         text.skip_vector();
         text.skip_comments();

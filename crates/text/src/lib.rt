@@ -20,6 +20,8 @@ struct Text<'a> {
     len: usize,
 }
 
+// Room is a need of each call and no ghost field, for each call takes some; and that the text goes on in the same bytes is a relation
+// of two states, which cannot stand in a type.
 impl Text<'_> {
     ghost use Rattle.text.specs.Text.{HasRoom, Adds};
 
@@ -151,8 +153,8 @@ fn letter(p: Loc) -> &'static str
     }
 }
 
-// The whole text of an answer, at the start of a text, and its length. The answer comes as its three numbers, any that there are: a
-// Result would ask more of a caller.
+// The whole text of an answer, at the start of a text, and its length. The answer comes as its three numbers, any that there are: their
+// struct stands with its From in crate zubmanger, and the text needs nothing else of the compiler.
 pub fn answer_text(number: u32, ops: u32, temps: u32, out: &[u32], text: &mut [u8]) -> usize
     requires ops_in_bounds { 6 * ops ≤ length out.now }
     requires ops_in_bounds_2 { line_limit * (ops + 1) ≤ length text.old }

@@ -90,7 +90,8 @@ impl<'a> Cursor<'a> {
         file.len()
     }
 
-    // Reads a number written in decimal; where it is over 16,384, not every digit is read.
+    // Reads a number written in decimal; where it is over 16,384, not every digit is read. Not by parse, which takes a whole text and
+    // refuses a long one.
     pub fn read_number(&mut self) -> usize
         ensures { ReadsNumber self.old.text.now result self.new.text.now }
     {
@@ -117,7 +118,7 @@ fn line_length(text: &[u8]) -> usize
     }
 }
 
-// The value of a hexadecimal digit.
+// The value of a hexadecimal digit. Not by to_digit, which takes capitals too.
 fn digit(b: u8) -> Option<u8>
     ensures { SomeIff result (digit_of b < 16) (digit_of b) }
 {
