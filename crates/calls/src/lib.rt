@@ -60,6 +60,7 @@ fn key_of(m: u64) -> u32
     (m >> 32) as u32
 }
 
+// What changes a trimmer says by `same` that it goes by the same nodes and settings: a relation of two states, which no type can say.
 impl Trimmer<'_> {
     // The trees as the marks show them so far.
     fn trees(&self) -> Trees<'_>
