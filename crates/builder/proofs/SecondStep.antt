@@ -8,13 +8,12 @@ use mathlib.Core.List.{List}
 use lib.ListN.{length, take, length-take}
 use lib.Seq.{sets, length-sets, get_or-take}
 use borrow.Author.Tests.{lt-ltb, le-ltb}
-use Rattle.limits.specs.Limits.{index_end}
+use Rattle.limits.specs.Limits.{index_end, row_limit}
 use Rattle.header.specs.Settings.{header_of, temporary_of, Indexed}
 use Rattle.definitions.specs.Sheet.{fused}
 use Rattle.definitions.specs.Operations.{Op, list_words}
 use Rattle.definitions.specs.Emit.{emit_all}
 use Rattle.definitions.specs.Answer.{temporary}
-use Rattle.statement.specs.Handover.{SheetTrimmed}
 use Rattle.statement.specs.declared.State.{State}
 use Rattle.statement.specs.declared.Row.{Row}
 use Rattle.statement.specs.declared.Row.TheVariants.{Given, Copied, Kept, Passed, Made}
@@ -30,30 +29,31 @@ use Rattle.std.specs.Prelude.{Ok, Err}
 use Rattle.refusal.specs.declared.Refusal.TheVariants.{Temporaries, Output}
 use Rattle.builder.specs.declared.Sheet.{Sheet}
 use Rattle.builder.specs.declared.Memory.{Memory}
-use Rattle.builder.specs.InRange.{StepInRange}
 use Rattle.builder.specs.Steps.{rows_say, Listable, ListsTo}
 
 -- what emission asks for, once check 9 has passed
-module _ (v : Evaluator) {sharing : Bool} {scratch : ℕ} {ms : List ℕ} {er : List Row} {e : State} (rs : List Row) (s : State)
-    (put : SheetTrimmed sharing scratch v.trees.nodes.words.now ms v.trees.marks.now.words er rs v.trees.nodes.count e s)
-    (k : StepInRange v.header) (in_range : v.header.first + v.header.step * s.next ≤ index_end) where
+module _ (b : Sheet) (m : Memory) (s : State) (l : Listable b m s) (v : Evaluator) (header : v.header ≡ b.header)
+    (nodes : v.trees.nodes ≡ b.sheet.nodes) (in_range : b.header.first + b.header.step * s.next ≤ index_end) where
   indexed : (i : ℕ) → i < s.next → Indexed v.header i
-  indexed i low = indexed_below v.header s.next k.steps in_range i low
+  indexed i low = rw header (indexed_below b.header s.next b.steps.steps in_range i low)
 
-  row_fits : (r : Row) → OnRoot (λ b. b < v.trees.nodes.count) r → NumberedBelow s.next r → RowFits v r
-  row_fits (Given p b) root low = root
+  row_fits : (r : Row) → OnRoot (λ j. j < v.trees.nodes.count) r → NumberedBelow s.next r → RowFits v r
+  row_fits (Given p j) root low = root
   row_fits (Copied p i) root low = indexed i low
-  row_fits (Kept i b) root low = (indexed i low, root)
+  row_fits (Kept i j) root low = (indexed i low, root)
   row_fits (Passed i j) root low = (indexed i low.0, indexed j low.1)
-  row_fits (Made i b link key) root low = (indexed i low, root)
+  row_fits (Made i j link key) root low = (indexed i low, root)
 
-  pub rows_fit : RowsFit v (take s.count rs)
+  rows_fit : RowsFit v (take s.count m.trimmed.now)
   rows_fit i low =
-      let below : i < s.count = omega (arith, low, length-take s.count rs) in
-      rw (get_or-take s.count rs i empty below)
-      (row_fits (row_at rs i)
-      (all_row (OnRoot (λ b. b < v.trees.nodes.count)) rs s.count i put.placed below)
-      (all_row (NumberedBelow s.next) rs s.count i put.named below))
+      let below : i < s.count = omega (arith, low, length-take s.count m.trimmed.now) in
+      rw (get_or-take s.count m.trimmed.now i empty below)
+      (row_fits (row_at m.trimmed.now i)
+      (all_row (OnRoot (λ j. j < v.trees.nodes.count)) m.trimmed.now s.count i (rw nodes l.put.placed) below)
+      (all_row (NumberedBelow s.next) m.trimmed.now s.count i l.put.named below))
+
+  pub rows_emit : (length (take s.count m.trimmed.now) ≤ row_limit) × RowsFit v (take s.count m.trimmed.now)
+  rows_emit = (omega (arith, l.put.few, length-take s.count m.trimmed.now), rows_fit)
 
 module _ (b : Sheet) (m : Memory) (s : State) (l : Listable b m s) where
   -- a temporary's index can be counted, whatever check 9 says

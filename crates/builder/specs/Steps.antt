@@ -43,6 +43,10 @@ pub record TrimReady (b : Sheet) (m : Memory) : Type 0 where
   pub room : RoomFor m.trimmed.now (b.header.count + b.sheet.nodes.count)
   pub short : length m.trimmed.now ≤ row_limit
 
+-- the Ershov numbers of the trimmed trees are kept
+abbrev pub KeepsNumbers : Sheet → Memory → Type 0
+KeepsNumbers b m = Ershovs b.sheet.nodes.words.now m.marks.now.words m.heads.now.words 0 b.sheet.nodes.count
+
 -- rows that can be emitted: trimming put them out, and the Ershov numbers of their trees are kept
 pub record Listable (b : Sheet) (m : Memory) (s : State) : Type 0 where
   pub sharing : Bool
@@ -51,7 +55,7 @@ pub record Listable (b : Sheet) (m : Memory) (s : State) : Type 0 where
   pub shared : List Row
   pub e : State
   pub put : SheetTrimmed sharing scratch b.sheet.nodes.words.now marks m.marks.now.words shared m.trimmed.now b.sheet.nodes.count e s
-  pub numbers : Ershovs b.sheet.nodes.words.now m.marks.now.words m.heads.now.words 0 b.sheet.nodes.count
+  pub numbers : KeepsNumbers b m
 
 -- what trimming makes of the statements of the shared rows, by the definition
 abbrev pub trims_rows : Sheet → (marks : List ℕ) (shared : List Row) (e : State) (places : ℕ → Loc) → Trimming

@@ -13,8 +13,9 @@ use Rattle.statement.specs.Rows.{RoomFor, HasLink, key_at, row_at, statements_of
 use Rattle.statement.specs.Rowing.{All, OnRoot, NumberedBelow}
 use Rattle.compare.specs.Comparison.{Comparable}
 use Rattle.keys.specs.Keys.{MarksLow}
-use Rattle.calls.specs.Index.{Indexed}
-use Rattle.calls.specs.Progress.{Progress, progress, rows_of}
+use Rattle.calls.specs.Index.{SeekReady, Indexed}
+use Rattle.calls.specs.Progress.{Progress, progress, progress_of, rows_of}
+use Rattle.calls.specs.declared.Trimmer.{Trimmer}
 
 -- the call at node i is sought among rows: they have roots to compare, and numbers
 pub record CallSought (ws : List ℕ) (i : ℕ) (rows : List Row) : Type 0 where
@@ -84,3 +85,27 @@ pub data CallBroken (sharing : Bool) (ws : List ℕ) (n i : ℕ) (p p' : Progres
       → ((temporary : ℕ → Loc) → Fresh temporary ws n → sought sharing temporary ws p.marks i (rows_of p) ≡ maybe.none)
       → length heads ≡ length p.heads → Indexed sharing ws p'.marks p'.rows p'.heads p'.state.count
       → CallBroken sharing ws n i p p' k
+
+-- these of a trimmer: the call at node i is sought among rows,
+abbrev pub Seeks : (t : Trimmer) (i : ℕ) → List Row → Type 0
+Seeks t i rows = CallSought t.nodes.words.now i rows
+
+-- in the chain that begins with v,
+abbrev pub SeeksFrom : (t : Trimmer) (i v key : ℕ) → Type 0
+SeeksFrom t i v key = SeekReady t.nodes.words.now t.marks.now.words t.rows.now i v key t.state.count
+
+-- whose row k may be asked,
+abbrev pub AsksRow : (t : Trimmer) (i key k : ℕ) → Type 0
+AsksRow t i key k = RowAsked t.nodes.words.now t.marks.now.words t.rows.now i key k
+
+-- and what is found among rows;
+abbrev pub Finds : (t : Trimmer) (i : ℕ) → List Row → Option ℕ → Type 0
+Finds t i rows r = CallFound t.nodes.words.now t.marks.now.words i rows r
+
+-- the call at node i may be broken out,
+abbrev pub BreaksReady : (t : Trimmer) (i : ℕ) → Type 0
+BreaksReady t i = CallReady t.settings.sharing t.nodes.words.now t.nodes.count i (progress_of t)
+
+-- and was broken out into temporary k
+abbrev pub Breaks : (t t' : Trimmer) (i k : ℕ) → Type 0
+Breaks t t' i k = CallBroken t.settings.sharing t.nodes.words.now t.nodes.count i (progress_of t) (progress_of t') k

@@ -4,10 +4,10 @@
 ghost use Rattle.std.specs.Prelude.{◌≡◌, ◌∷◌, [], ◌+◌, ◌<◌, ◌≤◌};
 ghost use Rattle.limits.specs.Limits.{row_limit, temporary_limit};
 ghost use Rattle.limits.specs.Words.{word_of};
-ghost use Rattle.statement.specs.Rows.{RoomFor, row_at, rows_from};
-ghost use Rattle.calls.specs.Index.{slot, key_of, SeekReady};
-ghost use Rattle.calls.specs.Progress.{progress_of, with_row, RowReady, SameTrimmer};
-ghost use Rattle.calls.specs.Calls.{CallSought, CallFound, RowAsked, CallReady, with_call, CallBroken};
+ghost use Rattle.statement.specs.Rows.{RoomFor, row_at};
+ghost use Rattle.calls.specs.Index.{slot, key_of};
+ghost use Rattle.calls.specs.Progress.{progress_of, rows_of, with_row, RowReady, SameTrimmer};
+ghost use Rattle.calls.specs.Calls.{with_call, Seeks, SeeksFrom, AsksRow, Finds, BreaksReady, Breaks};
 
 use compare::Trees;
 use header::Header;
@@ -36,7 +36,8 @@ impl From<Header> for Settings {
 }
 
 // Trimming as far as it has come: the temporary of each node that has a mark; the rows, lent in an array that the state counts (fixed
-// memory: there is no heap for as many as there are); the last row of each chain of calls.
+// memory: there is no heap for as many as there are); the last row of each chain of calls. Room for a row is a need of each call and no
+// ghost field: each call moves it.
 #[derive(Drop)]
 pub struct Trimmer<'a> {
     pub nodes: NodeTable<'a>,
@@ -75,8 +76,8 @@ impl Trimmer<'_> {
 
     // The temporary of row k, if it makes the same call as node i. Trees are compared only where the keys agree.
     fn hits(&self, i: u32, key: u32, k: u32) -> Option<u32>
-        requires { RowAsked self.now.nodes.words.now self.now.marks.now.words self.now.rows.now i key k }
-        ensures { CallFound self.now.nodes.words.now self.now.marks.now.words i (row_at self.now.rows.now k ∷ []) result }
+        requires { AsksRow self.now i key k }
+        ensures { Finds self.now i (row_at self.now.rows.now k ∷ []) result }
     {
         let row = self.rows[k as usize];
         match row {
@@ -93,12 +94,10 @@ impl Trimmer<'_> {
     // The temporary of the first row that makes the same call as node i: by the links of its chain, from its last row.
     #[tactic(auto, using(crate::proofs::Search::along_chain))]
     fn seek(&self, i: u32, last: Option<u32>, key: u32) -> Option<u32>
-        requires ready { SeekReady self.now.nodes.words.now self.now.marks.now.words self.now.rows.now i (word_of last) key
-            self.now.state.count }
-        requires sought { CallSought self.now.nodes.words.now i (rows_from self.now.rows.now 0 self.now.state.count) }
+        requires ready { SeeksFrom self.now i (word_of last) key }
+        requires sought { Seeks self.now i (rows_of (progress_of self.now)) }
         requires room { RoomFor self.now.rows.now self.now.state.count }
-        ensures { CallFound self.now.nodes.words.now self.now.marks.now.words i
-            (rows_from self.now.rows.now 0 self.now.state.count) result }
+        ensures { Finds self.now i (rows_of (progress_of self.now)) result }
     {
         let mut found = None;
         let mut link = last;
@@ -142,10 +141,9 @@ impl Trimmer<'_> {
     // The temporary of the call at node i, whose arguments are trimmed: with sharing on an earlier call's; where there is none, a new one.
     #[tactic(auto, using(crate::proofs::Search::ready_comparable, crate::proofs::Search::chain_low))]
     pub fn break_call(&mut self, i: u32) -> u32
-        requires { CallReady self.old.settings.sharing self.old.nodes.words.now self.old.nodes.count i (progress_of self.old) }
+        requires { BreaksReady self.old i }
         ensures same { SameTrimmer self.old self.new }
-        ensures broken { CallBroken self.old.settings.sharing self.old.nodes.words.now self.old.nodes.count i
-            (progress_of self.old) (progress_of self.new) result }
+        ensures broken { Breaks self.old self.new i result }
     {
         if !self.settings.sharing {
             return self.new_call(i, None, 0);
