@@ -1,8 +1,7 @@
 // The mix of a tree as its marks show it: it picks the earlier calls that a call is compared with.
 #![tactic(auto)]
 
-ghost use Rattle.compare.specs.Comparison.{Comparable};
-ghost use Rattle.keys.specs.Keys.{MarksLow, SeenMix, ViewMix};
+ghost use Rattle.keys.specs.Mixed.{MixReady, SeenMixed, ViewMixed};
 
 use compare::Trees;
 use node::Node;
@@ -11,8 +10,8 @@ use node::Node;
 #[cycle(mix_seen_mix_view)]
 #[tactic(auto, using(compare::proofs::MarksDecide::node_low, crate::proofs::Mixing::marked_mixed))]
 pub fn mix_view(trees: &Trees, i: u32) -> u64
-    requires { Comparable trees.now.nodes.words.now i × MarksLow trees.now.marks.now.words }
-    ensures { ViewMix trees.now.nodes.words.now trees.now.marks.now.words i result }
+    requires { MixReady trees.now i }
+    ensures { ViewMixed trees.now i result }
 {
     match trees.marks.get(i) {
         Some(temporary) => mix::mix_temporary(temporary),
@@ -21,11 +20,12 @@ pub fn mix_view(trees: &Trees, i: u32) -> u64
 }
 
 // And without its mark. Not by mix::mix_node: tried, and the proof didn't close, as its closure's clauses can't name node i.
+// Only this node is asked to lie among the words, as in compare: get would ask more of callers.
 #[cycle(mix_seen_mix_view)]
 #[tactic(auto, using(compare::proofs::MarksDecide::node_low))]
 pub fn mix_seen(trees: &Trees, i: u32) -> u64
-    requires { Comparable trees.now.nodes.words.now i × MarksLow trees.now.marks.now.words }
-    ensures { SeenMix trees.now.nodes.words.now trees.now.marks.now.words i result }
+    requires { MixReady trees.now i }
+    ensures { SeenMixed trees.now i result }
 {
     let node = node::unpack(trees.nodes.words, i);
     let s = mix::seed_of(node);
