@@ -10,6 +10,7 @@ use links::LinkedRows;
 use node::Node;
 
 // Sides are compared where their mixes agree, so nearly only where they are the same: straight, or exchanged where that is allowed.
+// Under one head both rows have a right side or neither has, so the last arm is that of rows without sides.
 #[cycle(same_both_same_rows)]
 pub fn same_rows(links: &LinkedRows, a: u32, b: u32) -> bool
     requires { Comparable links.now a b }
@@ -20,13 +21,12 @@ pub fn same_rows(links: &LinkedRows, a: u32, b: u32) -> bool
     }
     let l = links.left(a);
     let x = links.left(b);
-    match links.get(a) {
-        Node::Const(_) | Node::Var(_) => true,
-        Node::Unary(_) => same_rows(links, l, x),
-        Node::Binary(o, r) => {
-            let y = links.right(b);
+    match (links.get(a), links.right(b)) {
+        (Node::Unary(_), _) => same_rows(links, l, x),
+        (Node::Binary(o, r), Some(y)) => {
             same_both(links, l, r, x, y) || node::exchanges_sides(o) && same_both(links, l, r, y, x)
         }
+        _ => true,
     }
 }
 

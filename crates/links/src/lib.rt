@@ -1,8 +1,9 @@
 // Tidied trees as linked rows, and the fresh nodes that are laid from them.
 #![tactic(auto)]
 
-ghost use Rattle.std.specs.Prelude.{◌≡◌, ◌+◌, ◌*◌, get_or, eqb};
+ghost use Rattle.std.specs.Prelude.{◌≡◌, eqb};
 ghost use Rattle.node.specs.Nodes.{node_at, end_at, same_head};
+ghost use Rattle.node.specs.Sides.{right_of};
 ghost use Rattle.mix.specs.Mix.{mix};
 ghost use Rattle.links.specs.Links.{Links, linked, Fits, Lays};
 ghost use Rattle.links.specs.Mixes.{Mixed};
@@ -39,11 +40,11 @@ impl LinkedRows<'_> {
     }
 
     // The number of its right side, where it has one.
-    pub fn right(&self, i: u32) -> u32
+    pub fn right(&self, i: u32) -> Option<u32>
         requires { Has self.now i }
-        ensures { result ≡ get_or self.now.rows.now (4 * i + 2) 0 }
+        ensures { result ≡ right_of (node_at self.now.rows.now i) }
     {
-        self.rows[4 * (i as usize) + 2]
+        self.get(i).right()
     }
 
     pub fn mix(&self, i: u32) -> u64
@@ -70,7 +71,7 @@ impl LinkedRows<'_> {
     }
 }
 
-// The tree of row i from node m on: the number after its last node.
+// The tree of row i from node m on: the number after its last node. Of the words alone: a LinkedRows holds mixes, which laying never needs.
 pub fn lay(rows: &[u32], i: u32, ws: &mut [u32], m: u32) -> u32
     requires { Fits rows.now i m }
     ensures { Lays rows.now i m ws.old ws.new result }

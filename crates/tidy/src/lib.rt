@@ -15,7 +15,8 @@ const SMALL_LINKS: usize = 4 * SMALL;
 
 const LINKS: usize = 4 * NODES;
 
-// Fresh nodes over those as read, from the linked rows of each statement's tree; the number of nodes after.
+// Fresh nodes over those as read, from the linked rows of each statement's tree; the number of nodes after. Of the rows' words alone, as
+// links::lay: a LinkedRows holds mixes too.
 fn lay_all(links: &[u32], ws: &mut [u32], rows: &mut [Row]) -> u32
     requires { Linked links.now rows.old (length rows.old) }
     ensures { Relaid (root_trees (linked links.now) rows.old 0 (length rows.old)) ws.old
@@ -32,6 +33,7 @@ fn lay_all(links: &[u32], ws: &mut [u32], rows: &mut [Row]) -> u32
 }
 
 // Linked rows for all nodes as read, then, if a rule fitted, fresh nodes; with room for so many words of rows, and so many mixes.
+// No Sheet, here and below: its facts hold while nothing changes, and words and rows are laid anew here.
 fn tidy_rows<const WORDS: usize, const MIXES: usize>(
     values: &[u8],
     ws: &mut [u32],
