@@ -7,12 +7,12 @@ ghost use Rattle.operation.specs.declared.Two.TheVariants.{Binary as BinaryTwo};
 ghost use Rattle.node.specs.declared.Node.TheVariants.{Unary as UnaryNode};
 ghost use Rattle.node.specs.Sides.{Sides, tree_over};
 ghost use Rattle.node.specs.Sized.{SizedNode};
-ghost use Rattle.tidying.specs.Units.{units_of};
 ghost use Rattle.tidying.specs.Tidy.{alone, joined};
 ghost use Rattle.mix.specs.Mix.{mix};
 ghost use Rattle.links.specs.Links.{linked};
 ghost use Rattle.links.specs.LinkedFrom.{Has};
 ghost use Rattle.alike.specs.Alike.{Comparable};
+ghost use Rattle.rules.specs.Moves.{units, tree};
 ghost use Rattle.linking.specs.Rows.{Tidied, Kept};
 ghost use Rattle.linking.specs.NewRows.{Makes, Joins};
 
@@ -55,8 +55,7 @@ fn alone_row(links: &LinkedRows, j: u32) -> NewRow
 // The operation of a code over rows l and r, tidied.
 fn binary_row(rules: &Rules, code: BinaryCode, l: u32, r: u32) -> NewRow
     requires { Comparable rules.now.links l r }
-    ensures { Makes rules.now.links result (joined (units_of rules.now.values.now) (BinaryTwo code)
-        (linked rules.now.links.rows.now l) (linked rules.now.links.rows.now r)) }
+    ensures { Makes rules.now.links result (joined (units rules.now) (BinaryTwo code) (tree rules.now l) (tree rules.now r)) }
 {
     match rules.settle(code, l, r) {
         Made::Node(c, x, y) => NewRow {

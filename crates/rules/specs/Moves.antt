@@ -6,9 +6,12 @@ use Rattle.operation.specs.declared.One.TheVariants.{Unary}
 use Rattle.operation.specs.declared.Two.TheVariants.{Binary}
 use Rattle.definitions.specs.Tree.{Tree, one, two}
 use Rattle.definitions.specs.Same.{same}
-use Rattle.tidying.specs.Units.{units_of}
-use Rattle.tidying.specs.Tidy.{Units, is_const, is_unary, argument, alone, Outcome, stays, becomes, again, joined}
+use Rattle.tidying.specs.Units.{is_unit, units_of}
+use Rattle.tidying.specs.Tidy.{Units, is_const, is_unary, argument, alone, Outcome, stays, becomes, again, code_rules, joined}
+use Rattle.values.specs.declared.Unit.{Unit as AskedUnit}
+use Rattle.values.specs.Signs.{is_negative}
 use Rattle.links.specs.Links.{Row, linked}
+use Rattle.rules.specs.declared.Rules.{Rules}
 use Rattle.rules.specs.declared.Move.{Move}
 use Rattle.rules.specs.declared.Move.TheVariants.{Ends, Again}
 use Rattle.rules.specs.declared.Made.{Made}
@@ -59,3 +62,27 @@ pub record Moved (rows : List ℕ) (l r : ℕ) (s : Outcome) (m : Option Move) :
 pub record Settled (values rows : List ℕ) (code : BinaryCode) (l r : ℕ) (m : Made) : Type 0 where
   pub tree : made_tree (linked rows) m ≡ joined (units_of values) (Binary code) (linked rows l) (linked rows r)
   pub within : Within rows (min l r) m
+
+-- ---- over what the rules look at
+
+abbrev pub units : Rules → Units
+units t = units_of t.values.now
+
+-- the tree of row j
+abbrev pub tree : Rules → ℕ → Tree
+tree t j = linked t.links.rows.now j
+
+-- is row j a constant of the unit's value?
+abbrev pub holds : Rules → AskedUnit → (j : ℕ) → Bool
+holds t unit j = is_const (is_unit (is_negative unit) t.values.now) (tree t j)
+
+-- the move of rows l and r is what the rule makes of their trees
+abbrev pub Moves : (t : Rules) (rule : (l r : Tree) → Outcome) (l r : ℕ) → Option Move → Type 0
+Moves t rule l r m = Moved t.links.rows.now l r (rule (tree t l) (tree t r)) m
+
+-- no rule of the code fits rows l and r
+abbrev pub NoneFits : (t : Rules) (code : BinaryCode) (l r : ℕ) → Type 0
+NoneFits t code l r = code_rules (units t) code (tree t l) (tree t r) ≡ stays
+
+abbrev pub Settles : (t : Rules) (code : BinaryCode) (l r : ℕ) → Made → Type 0
+Settles t code l r m = Settled t.values.now t.links.rows.now code l r m

@@ -2,13 +2,10 @@
 #![tactic(auto)]
 
 ghost use Rattle.std.specs.Prelude.{◌≡◌, false};
-ghost use Rattle.tidying.specs.Units.{is_unit, units_of};
-ghost use Rattle.tidying.specs.Tidy.{is_const, is_unary, times_rules, divide_rules, plus_rules, code_rules, stays};
-ghost use Rattle.values.specs.Signs.{is_negative};
-ghost use Rattle.links.specs.Links.{linked};
+ghost use Rattle.tidying.specs.Tidy.{is_unary, times_rules, divide_rules, plus_rules, code_rules};
 ghost use Rattle.links.specs.LinkedFrom.{Has};
 ghost use Rattle.alike.specs.Alike.{Comparable};
-ghost use Rattle.rules.specs.Moves.{goes, conjugates, Moved, Settled};
+ghost use Rattle.rules.specs.Moves.{goes, conjugates, units, tree, holds, Moves, NoneFits, Settles};
 
 use links::LinkedRows;
 use node::Node;
@@ -43,7 +40,7 @@ impl Rules<'_> {
     #[tactic(auto, using(links::proofs::LinkedFrom::tree_of))]
     fn is_const(&self, j: u32, unit: Unit) -> bool
         requires { Has self.now.links j }
-        ensures { result ≡ is_const (is_unit (is_negative unit) self.now.values.now) (linked self.now.links.rows.now j) }
+        ensures { result ≡ holds self.now unit j }
     {
         matches!(self.links.get(j),
             Node::Const(k) if values::is_unit(self.values, unit, u32::from(k)))
@@ -53,7 +50,7 @@ impl Rules<'_> {
     #[tactic(auto, using(links::proofs::LinkedFrom::tree_of, crate::proofs::Rows::other_code))]
     fn is_unary(&self, j: u32, code: UnaryCode) -> bool
         requires { Has self.now.links j }
-        ensures { result ≡ is_unary code (linked self.now.links.rows.now j) }
+        ensures { result ≡ is_unary code (tree self.now j) }
     {
         matches!(self.links.get(j), Node::Unary(One::Unary(c)) if c == code)
     }
@@ -61,7 +58,7 @@ impl Rules<'_> {
     // Is row a the conjugate of row b?
     fn is_conjugate(&self, a: u32, b: u32) -> bool
         requires { Comparable self.now.links a b }
-        ensures { result ≡ conjugates (linked self.now.links.rows.now a) (linked self.now.links.rows.now b) }
+        ensures { result ≡ conjugates (tree self.now a) (tree self.now b) }
     {
         self.is_unary(a, UnaryCode::Conjugate)
             && alike::same_rows(&self.links, self.links.left(a), b)
@@ -69,8 +66,7 @@ impl Rules<'_> {
 
     fn times_rules(&self, l: u32, r: u32) -> Option<Move>
         requires { Comparable self.now.links l r }
-        ensures { Moved self.now.links.rows.now l r
-            (times_rules (units_of self.now.values.now) (linked self.now.links.rows.now l) (linked self.now.links.rows.now r)) result }
+        ensures { Moves self.now (times_rules (units self.now)) l r result }
     {
         if self.is_const(l, Unit::MinusOne) {
             return Some(Move::Ends(Made::Neg(r)));
@@ -101,8 +97,7 @@ impl Rules<'_> {
 
     fn divide_rules(&self, l: u32, r: u32) -> Option<Move>
         requires { Comparable self.now.links l r }
-        ensures { Moved self.now.links.rows.now l r
-            (divide_rules (linked self.now.links.rows.now l) (linked self.now.links.rows.now r)) result }
+        ensures { Moves self.now divide_rules l r result }
     {
         if self.is_unary(r, UnaryCode::Recip) {
             return Some(Move::Again(BinaryCode::Times, l, self.links.left(r)));
@@ -112,8 +107,7 @@ impl Rules<'_> {
 
     fn plus_rules(&self, l: u32, r: u32) -> Option<Move>
         requires { Comparable self.now.links l r }
-        ensures { Moved self.now.links.rows.now l r
-            (plus_rules (linked self.now.links.rows.now l) (linked self.now.links.rows.now r)) result }
+        ensures { Moves self.now plus_rules l r result }
     {
         if self.is_unary(l, UnaryCode::Neg) {
             return Some(Move::Again(BinaryCode::Minus, r, self.links.left(l)));
@@ -128,8 +122,7 @@ impl Rules<'_> {
     #[tactic(auto, unfolding(operation::specs::Numbers::binary_number))]
     fn code_rules(&self, code: BinaryCode, l: u32, r: u32) -> Option<Move>
         requires { Comparable self.now.links l r }
-        ensures { Moved self.now.links.rows.now l r
-            (code_rules (units_of self.now.values.now) code (linked self.now.links.rows.now l) (linked self.now.links.rows.now r)) result }
+        ensures { Moves self.now (code_rules (units self.now) code) l r result }
     {
         match code {
             BinaryCode::Times => self.times_rules(l, r),
@@ -142,7 +135,7 @@ impl Rules<'_> {
     // May row a be the conjugate of row b? Its argument's mix tells, nearly always.
     fn may_conjugate(&self, a: u32, b: u32) -> bool
         requires { Comparable self.now.links a b }
-        ensures { result ≡ false → conjugates (linked self.now.links.rows.now a) (linked self.now.links.rows.now b) ≡ false }
+        ensures { result ≡ false → conjugates (tree self.now a) (tree self.now b) ≡ false }
     {
         self.is_unary(a, UnaryCode::Conjugate) && self.links.same_mixes(self.links.left(a), b)
     }
@@ -150,7 +143,7 @@ impl Rules<'_> {
     // Is row j a constant of the value −1 or 1, or a reciprocal?
     fn goes_away(&self, j: u32) -> bool
         requires { Has self.now.links j }
-        ensures { result ≡ goes (units_of self.now.values.now) (linked self.now.links.rows.now j) }
+        ensures { result ≡ goes (units self.now) (tree self.now j) }
     {
         self.is_const(j, Unit::MinusOne)
             || self.is_const(j, Unit::One)
@@ -161,8 +154,7 @@ impl Rules<'_> {
     #[tactic(auto, unfolding(operation::specs::Numbers::binary_number))]
     pub fn may_fit(&self, code: BinaryCode, l: u32, r: u32) -> bool
         requires { Comparable self.now.links l r }
-        ensures { result ≡ false → code_rules (units_of self.now.values.now) code (linked self.now.links.rows.now l)
-            (linked self.now.links.rows.now r) ≡ stays }
+        ensures { result ≡ false → NoneFits self.now code l r }
     {
         match code {
             BinaryCode::Times => {
@@ -180,7 +172,7 @@ impl Rules<'_> {
     // The rules until none fits.
     pub fn settle(&self, code: BinaryCode, l: u32, r: u32) -> Made
         requires { Comparable self.now.links l r }
-        ensures { Settled self.now.values.now self.now.links.rows.now code l r result }
+        ensures { Settles self.now code l r result }
     {
         match self.code_rules(code, l, r) {
             None => Made::Node(code, l, r),
