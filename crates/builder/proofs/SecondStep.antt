@@ -19,6 +19,8 @@ use Rattle.statement.specs.declared.Row.TheVariants.{Given, Copied, Kept, Passed
 use Rattle.statement.specs.Rows.{empty, row_at, statements_of}
 use Rattle.statement.specs.Rowing.{OnRoot, NumberedBelow}
 use Rattle.statement.proofs.EveryRow.{all_row}
+use Rattle.ershov.specs.Shown.{KnownNode}
+use Rattle.ershov.proofs.Numbers.{table_known}
 use Rattle.evaluator.proofs.Temporaries.{indexed_below, marks_indexed}
 use Rattle.evaluator.specs.Ready.{MarksIndexed}
 use Rattle.evaluator.specs.declared.Evaluator.{Evaluator}
@@ -36,12 +38,16 @@ module _ (b : Sheet) (m : Memory) (s : State) (l : Listable b m s) (v : Evaluato
   indexed : (i : ℕ) → i < s.next → Indexed v.header i
   indexed i low = rw header (indexed_below b.header s.next b.steps.steps in_range i low)
 
+  -- a node of the table is known
+  known : (j : ℕ) → j < v.trees.nodes.count → KnownNode v.trees j
+  known = table_known v.trees.nodes.table v.trees.kept
+
   row_fits : (r : Row) → OnRoot (λ j. j < v.trees.nodes.count) r → NumberedBelow s.next r → RowFits v r
-  row_fits (Given p j) root low = root
+  row_fits (Given p j) root low = known j root
   row_fits (Copied p i) root low = indexed i low
-  row_fits (Kept i j) root low = (indexed i low, root)
+  row_fits (Kept i j) root low = (indexed i low, known j root)
   row_fits (Passed i j) root low = (indexed i low.0, indexed j low.1)
-  row_fits (Made i j link key) root low = (indexed i low, root)
+  row_fits (Made i j link key) root low = (indexed i low, known j root)
 
   rows_fit : RowsFit v (take s.count m.trimmed.now)
   rows_fit i low =

@@ -13,7 +13,7 @@ use Rattle.definitions.specs.Tree.{Tree, two, join, ershov}
 use Rattle.definitions.specs.Operations.{Op}
 use Rattle.definitions.specs.Emit.{last, two_ops, leaf_of, plan, planned, evaluate, left_base, sides_by}
 use Rattle.definitions.specs.Emit as Emit
-use Rattle.ershov.specs.Shown.{ViewNumbered}
+use Rattle.ershov.specs.Shown.{KnownNode, ViewNumbered}
 use Rattle.emitters.specs.declared.Output.{Output}
 use Rattle.emitters.specs.Emitted.{Emitted}
 use Rattle.emitters.proofs.Emitting.{emitted_then, emitted_as}
@@ -110,13 +110,13 @@ module _ (e : Evaluator) (s : Over) (base : ℕ) {x y : ℕ} (left : ViewNumbere
 -- ---- the sides in their order
 
 module _ (e : Evaluator) (s : Over) (base : ℕ) where
-  -- turns whose sides are nodes of the table, none before the left one, each at a base that is low enough
+  -- turns whose sides are known, none before the left one, each at a base that is low enough
   pub record InTurn (o : Ordering) (r : Turns) : Type 0 where
     pub from : s.left ≤ r.first
-    pub inside : r.first < e.trees.nodes.count
+    pub known : KnownNode e.trees r.first
     pub low : r.base ≤ depth_limit + r.first
     pub next : s.left ≤ r.second
-    pub next_inside : r.second < e.trees.nodes.count
+    pub next_known : KnownNode e.trees r.second
     pub based : r.base ≡ left_base o base
     pub spans : span_of e r.first + span_of e r.second ≡ span_of e s.left + span_of e s.right
 
@@ -124,30 +124,30 @@ module _ (e : Evaluator) (s : Over) (base : ℕ) where
   in_turn k Ordering.lt =
       record {
         from = omega (arith, k.order);
-        inside = k.inside;
+        known = k.right;
         low = omega (arith, k.order, k.low);
         next = omega arith;
-        next_inside = omega (arith, k.order, k.inside);
+        next_known = k.left;
         based = refl;
         spans = omega arith;
       }
   in_turn k Ordering.eq =
       record {
         from = omega arith;
-        inside = omega (arith, k.order, k.inside);
+        known = k.left;
         low = omega (arith, k.low);
         next = omega (arith, k.order);
-        next_inside = k.inside;
+        next_known = k.right;
         based = refl;
         spans = refl;
       }
   in_turn k Ordering.gt =
       record {
         from = omega arith;
-        inside = omega (arith, k.order, k.inside);
+        known = k.left;
         low = omega (arith, k.low);
         next = omega (arith, k.order);
-        next_inside = k.inside;
+        next_known = k.right;
         based = refl;
         spans = refl;
       }
@@ -170,14 +170,14 @@ module _ {e : Evaluator} {s : Over} {base at : ℕ} (x y : ℕ) {r : Turns} (rea
   pub first_ready : NodeReady e r.first r.base at
   first_ready =
       let t = turns_taken in
-      record { inside = t.inside; low = t.low; counted = omega (arith, t.spans, ready.counted) }
+      record { known = t.known; low = t.low; counted = omega (arith, t.spans, ready.counted) }
 
   pub second_ready : {old between : Output} → old.at ≡ at → ViewEmitted e r.first r.base old between →
       NodeReady e r.second base between.at
   second_ready start first =
       let t = turns_taken in
       record {
-        inside = t.next_inside;
+        known = t.next_known;
         low = omega (arith, t.next, ready.low);
         counted = omega (arith, start, t.spans, ready.counted, first.ends, first.few);
       }

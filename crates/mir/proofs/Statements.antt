@@ -18,7 +18,8 @@ use Rattle.node.specs.declared.Node.{Node}
 use Rattle.node.specs.declared.Node.TheVariants.{Const, Var, Unary as UnaryNode, Binary as BinaryNode}
 use Rattle.node.specs.Nodes.{is_function, node_at, node_tree}
 use Rattle.statement.specs.Rows.{call_into}
-use Rattle.ershov.proofs.Numbers.{table_seen}
+use Rattle.ershov.specs.Shown.{KnownNode}
+use Rattle.ershov.proofs.Numbers.{known_tree}
 use Rattle.emitters.specs.declared.Output.{Output}
 use Rattle.emitters.specs.Emitted.{Emitted}
 use Rattle.emitters.proofs.Emitting.{emitted_then}
@@ -91,12 +92,12 @@ module _ (fused : Bool) (p : Loc) where
   call_saves f i (BinaryNode (Function2 g) r) = refl
 
 -- node i was unpacked as n, and it was asked whether that is a function's
-module _ (e : Evaluator) (p : Loc) {i : ℕ} {n : Node} {b : Bool} (inside : i < e.trees.nodes.count)
+module _ (e : Evaluator) (p : Loc) {i : ℕ} {n : Node} {b : Bool} (known : KnownNode e.trees i)
     (unpacked : n ≡ node_at e.trees.nodes.words.now i) (asked : b ≡ is_function n) where
   call_as : {c : Bool} → b ≡ c →
       statement_ops e.header.fused (call_into p (seen_tree e i)) ≡ saved_by e.header.fused p c (seen_tree e i)
   call_as is =
-      let tree = table_seen e.trees.nodes.table inside unpacked e.trees.marks.now.words (temporary_of e.header) refl in
+      let tree = known_tree known unpacked (temporary_of e.header) refl in
       ap (λ (t : Tree). statement_ops e.header.fused (call_into p t)) tree ∙ call_saves e.header.fused p (view_tree e) i n
       ∙ ap₂ (saved_by e.header.fused p) (sym asked ∙ is) (sym tree)
 

@@ -6,4 +6,5 @@ use Rattle.trees.proofs.Parser.read_node.Goals as goal
 pub returns : goal.returns
 returns c =
     let p = c.args.self.now in
-    rw (node_within p.header.stable p.header.first p.input.bytes.now p.input.at p.count c.args.left (omega arith) (omega arith)) c.head.ensures
+    let within = node_within p.header.stable p.header.first p.input.bytes.now p.input.at p.count c.args.left in
+    rw (within (omega arith) (omega arith)) c.head.ensures
