@@ -39,8 +39,8 @@ module _ {t : LinkedRows} {values ws : List ℕ} {n : ℕ} (i : ℕ) {m : ℕ} {
   inside : Inside t.rows.now i
   inside = omega (arith, done.whole)
 
-  pub next_linked
-      : LinkedFrom values ws (sets t.rows.now (4 * i) (node_words made.0.node made.0.left)) (set t.mixes.now i m) n i (flag || made.1)
+  pub next_linked :
+      LinkedFrom values ws (sets t.rows.now (4 * i) (node_words made.0.node made.0.left)) (set t.mixes.now i m) n i (flag || made.1)
   next_linked =
       let grown = added i joins next done.tidied inside unpacked refl in
       let entering = entered i joins next done.tidied inside unpacked refl in
