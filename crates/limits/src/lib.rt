@@ -49,7 +49,8 @@ pub const TEXT: usize = LINE * (WORK / 6 + 1);
 pub type PerNode = [u32; NODES];
 
 // An optional number for each node, or for each of as many chains: a word each, 0 or 1 + the number, as get reads and set writes it.
-// Options themselves take 12 KB more of a call's stack (fixed memory), as the words of the chains are lent on for other numbers.
+// Options themselves could not be lent on, as the words of the chains are, for other numbers (fixed memory: 12 KB more of a call's
+// stack); tried, they take 2% less time at 1,024 nodes, and 0.5 to 0.9% more at 16.
 // A row's link and the words of the index are such words too: a type of one word would be packed and unpacked just where they are.
 #[derive(Drop)]
 pub struct Options {

@@ -37,6 +37,9 @@ fn printed(mut text: Cursor, answer: Numbers, out: &[u32]) -> bool
     text.begins(b"end\n") && is_zero(&out[6 * ops as usize..])
 }
 
+// A text and a file go on apart, here and below: a file is a part of an array that `holds` has, and a struct of both would be made for
+// these calls alone.
+
 // Whether a sheet is answered as recorded. That the work and the rest of the output are zero always holds, and is checked too.
 fn answered(text: Cursor, file: &[u8], work: &mut [u32], out: &mut [u32]) -> bool
     requires { length out.old ≤ work_words }

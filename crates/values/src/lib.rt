@@ -28,6 +28,7 @@ impl Unit {
     }
 }
 
+// One for this width, as header has number16: from_le_bytes is each type's own, and no trait's.
 fn number64(s: &[u8], at: usize) -> u64
     requires { at + 7 < length s.now }
     ensures { result ≡ number_at s.now at }

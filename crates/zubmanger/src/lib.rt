@@ -6,7 +6,7 @@ ghost use Rattle.zubmanger.specs.Call.{Called, HasNumbers};
 use builder::Counts;
 use refusal::Refusal;
 
-// 0 and the counts of operations and temporaries, or a refusal's number and two zeros.
+// Three numbers and no Result (C interface): 0 and the counts of operations and temporaries, or a refusal's number and two zeros.
 #[repr(C)]
 #[derive(Clone, Copy, PartialEq, Eq, Debug)]
 pub struct Numbers {
