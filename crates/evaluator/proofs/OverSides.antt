@@ -120,6 +120,20 @@ module _ (e : Evaluator) (s : Over) (base : ℕ) where
     pub based : r.base ≡ left_base o base
     pub spans : span_of e r.first + span_of e r.second ≡ span_of e s.left + span_of e s.right
 
+  -- the left side first, at a base that is low enough
+  left_first : {at : ℕ} → SidesReady e s base at → (o : Ordering) (b : ℕ) → b ≤ depth_limit + s.left → b ≡ left_base o base →
+      InTurn o (record { first = s.left; base = b; second = s.right })
+  left_first k o b low based =
+      record {
+        from = omega arith;
+        known = k.left;
+        low = low;
+        next = omega (arith, k.order);
+        next_known = k.right;
+        based = based;
+        spans = refl;
+      }
+
   in_turn : {at : ℕ} → SidesReady e s base at → (o : Ordering) → InTurn o (turns_by o s base)
   in_turn k Ordering.lt =
       record {
@@ -131,26 +145,8 @@ module _ (e : Evaluator) (s : Over) (base : ℕ) where
         based = refl;
         spans = omega arith;
       }
-  in_turn k Ordering.eq =
-      record {
-        from = omega arith;
-        known = k.left;
-        low = omega (arith, k.low);
-        next = omega (arith, k.order);
-        next_known = k.right;
-        based = refl;
-        spans = refl;
-      }
-  in_turn k Ordering.gt =
-      record {
-        from = omega arith;
-        known = k.left;
-        low = omega (arith, k.low);
-        next = omega (arith, k.order);
-        next_known = k.right;
-        based = refl;
-        spans = refl;
-      }
+  in_turn k Ordering.eq = left_first k Ordering.eq (base + 1) (omega (arith, k.low)) refl
+  in_turn k Ordering.gt = left_first k Ordering.gt base (omega (arith, k.low)) refl
 
   emitted_in_turn : {old between new : Output} (o : Ordering) →
       ViewEmitted e (turns_by o s base).first (turns_by o s base).base old between →
