@@ -8,7 +8,7 @@ use native.Mathlib.Nat.{add-zero, zero-add, suc-add, add-suc}
 use lib.ListN.{length, get_or, set, take, drop, replicate}
 use borrow.Rule.Slice.PartMut.{put_mid}
 use lib.ListN.{length-set, length-drop, length-replicate, drop_of_length-le, take-append-drop, get_or-append}
-use lib.Seq.{drop-drop, sets, sets-eq, take_all, set_out, set_comm, length-take-le, get_or-append-add}
+use lib.Seq.{drop-drop, sets, sets-eq, take_all, set_out, set_comm, length-take-le, get_or-append-add, get_or-set_other}
 
 module _ {A : Type 0} where
   -- a store that lies apart from a run may come first
@@ -56,7 +56,27 @@ module _ {A : Type 0} where
       → new ≡ take k vs → put_mid a k l new ≡ sets l a vs
   cut_stored l vs a k h n e = part_stored l (take k vs) a k (omega arith) n e ∙ sets_cut k vs l a h
 
-  -- what stands in a run
+  -- a run word by word
+  sets_next : (vs l : List A) (i k : ℕ) (d : A) → k < length vs
+      → set (sets l i (take k vs)) (i + k) (get_or vs k d) ≡ sets l i (take (suc k) vs)
+  sets_next [] l i k d h = absurd (omega arith)
+  sets_next (v ∷ vs) l i zero d h = ap (λ (j : ℕ). set l j v) (add-zero i)
+  sets_next (v ∷ vs) l i (suc k) d h =
+      ap (λ (j : ℕ). set (sets (set l i v) (suc i) (take k vs)) j (get_or vs k d)) (add-suc i k ∙ sym (suc-add i k))
+      ∙ sets_next vs (set l i v) (suc i) k d (omega arith)
+
+  pub word_stored : (vs l : List A) (i k : ℕ) {part new : List A} (d : A) → k < length vs → part ≡ sets l i (take k vs)
+      → new ≡ set part (i + k) (get_or vs k d) → new ≡ sets l i (take (k + 1) vs)
+  word_stored vs l i k d h e f =
+      let next : suc k ≡ k + 1 = omega arith in
+      f ∙ ap (λ (m : List A). set m (i + k) (get_or vs k d)) e ∙ sets_next vs l i k d h ∙ ap (λ (n : ℕ). sets l i (take n vs)) next
+
+  -- what stands before a run, and in it
+  pub get_d_sets_below : (vs l : List A) (i j : ℕ) (d : A) → j < i → get_or (sets l i vs) j d ≡ get_or l j d
+  get_d_sets_below [] l i j d h = refl
+  get_d_sets_below (v ∷ vs) l i j d h =
+      get_d_sets_below vs (set l i v) (suc i) j d (omega arith) ∙ get_or-set_other l i j v d (λ e. omega arith)
+
   pub get_d_sets : (vs l : List A) (i k : ℕ) (d : A) → i + length vs ≤ length l → k < length vs
       → get_or (sets l i vs) (i + k) d ≡ get_or vs k d
   get_d_sets vs l i k d h m =

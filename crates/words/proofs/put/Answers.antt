@@ -1,6 +1,6 @@
--- Where there is room for all of them they are exchanged at once, else as many as there is room for.
+-- Where there is room for all of them they are exchanged at once, else one after another.
 use Rattle.std.proofs.Common.{arith, sym}
-use Rattle.words.proofs.StoreRuns.{part_stored, cut_stored, sets_out}
+use Rattle.words.proofs.StoreRuns.{part_stored, sets_out}
 use Rattle.words.proofs.put.Goals as goal
 
 pub returns-then-at-n : goal.returns-then-at-n
@@ -10,8 +10,3 @@ pub returns-then-n-at : goal.returns-then-n-at
 returns-then-n-at g c =
     let stored = c.copy_from_slice.ensures in
     part_stored c.args.ws.now c.args.vs c.args.at _ (omega arith) stored.len stored.after
-
-pub returns-else-n-at : goal.returns-else-n-at
-returns-else-n-at g c =
-    let stored = c.copy_from_slice-else-n-at.ensures in
-    cut_stored c.args.ws.now c.args.vs c.args.at _ (omega arith) stored.len stored.after
