@@ -4,6 +4,7 @@ use mathlib.Core.Bool.{true, false, false≢true}
 use mathlib.Core.List.{List}
 use Prim.Native.Nat.{ℕ, ◌<◌, min}
 use native.Mathlib.Omega.{arith}
+use Rattle.operation.specs.Numbers.{unary_number}
 use Rattle.operation.specs.declared.One.TheVariants.{Unary}
 use Rattle.operation.specs.declared.Two.TheVariants.{Binary, Choice, PowerMod, Function2}
 use Rattle.operation.specs.declared.UnaryCode.{UnaryCode}
@@ -44,10 +45,10 @@ alone_itself f left (BinaryNode o right) other = refl
 
 module _ (t : LinkedRows) {j : ℕ} (has : Has t j) where
   -- the unary of a code
-  pub unary_made : (c : UnaryCode) {row : NewRow} → row.node ≡ UnaryNode (Unary c) → row.left ≡ j
+  pub unary_made : (c : UnaryCode) {row : NewRow} → unary_number c < 256 → row.node ≡ UnaryNode (Unary c) → row.left ≡ j
       → Makes t row (one (Unary c) (linked t.rows.now j))
   unfolding Sides
-  unary_made c node left = record { sized = rw node tt; sides = rw (node, left) has; tree = rw (node, left) refl }
+  unary_made c byte node left = record { sized = rw node byte; sides = rw (node, left) has; tree = rw (node, left) refl }
 
   -- it was unpacked as x, with the left side l
   module _ {x : Node} {l : ℕ} (unpacked : x ≡ node_at t.rows.now j) (left : l ≡ end_at t.rows.now j) where
@@ -92,16 +93,18 @@ module _ (r : Rules) {code : BinaryCode} {x y : ℕ} (pair : Comparable r.links 
   unfolding Sides
   node_joined {c} {a} {b} told =
       let both = within (M.Node c a b) told in
-      record { sized = tt; sides = (has_from both.0, has_from both.1); tree = made_whole (M.Node c a b) told }
+      record { sized = both.0; sides = (has_from both.1, has_from both.2); tree = made_whole (M.Node c a b) told }
 
   module _ {j : ℕ} {row : NewRow} where
     pub neg_joined : m ≡ M.Neg j → row.node ≡ UnaryNode (Unary Neg) → row.left ≡ j → Makes r.links row whole
+    unfolding unary_number
     neg_joined told node left =
-        rw (← made_whole (M.Neg j) told) (unary_made r.links (has_from (within (M.Neg j) told)) Neg node left)
+        rw (← made_whole (M.Neg j) told) (unary_made r.links (has_from (within (M.Neg j) told)) Neg (omega arith) node left)
 
     pub abs_joined : m ≡ M.Abs2 j → row.node ≡ UnaryNode (Unary Abs2) → row.left ≡ j → Makes r.links row whole
+    unfolding unary_number
     abs_joined told node left =
-        rw (← made_whole (M.Abs2 j) told) (unary_made r.links (has_from (within (M.Abs2 j) told)) Abs2 node left)
+        rw (← made_whole (M.Abs2 j) told) (unary_made r.links (has_from (within (M.Abs2 j) told)) Abs2 (omega arith) node left)
 
     pub alone_joined : m ≡ M.Alone j → Makes r.links row (alone (linked r.links.rows.now j)) → Makes r.links row whole
     alone_joined told made = rw (← made_whole (M.Alone j) told) made

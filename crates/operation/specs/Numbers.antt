@@ -1,12 +1,12 @@
 -- The codes of operations as an enum has them, and their numbers: document 01, 'symbol.rs, operation.rs'.
-use Rattle.std.specs.Prelude.{◌≡◌, ℕ, ◌-◌, true, false, List, [], ◌∷◌, get_or, Result, MatchResult}
+use Rattle.std.specs.Prelude.{◌≡◌, refl, ℕ, ◌-◌, Bool, true, false, List, [], ◌∷◌, get_or, Result, MatchResult}
 use Rattle.operation.specs.declared.UnaryCode.{UnaryCode}
 use Rattle.operation.specs.declared.UnaryCode.TheVariants.{Neg, Not, Abs, Abs2, TimesI, TimesNegI, Root, RealRoot, Square, Cube}
 use Rattle.operation.specs.declared.UnaryCode.TheVariants.{Recip, Round, Floor, Ceiling, Trunc, Frac, Real, Imaginary, Conjugate}
-use Rattle.operation.specs.declared.UnaryCode.TheVariants.{IsZero, IsNotZero}
+use Rattle.operation.specs.declared.UnaryCode.TheVariants.{IsZero, IsNotZero, Other as OtherUnary}
 use Rattle.operation.specs.declared.BinaryCode.{BinaryCode}
 use Rattle.operation.specs.declared.BinaryCode.TheVariants.{Plus, Minus, Times, Divide, Rem, Gt, Geq, Lt, Leq, Eq, Neq, And, Or, Xor}
-use Rattle.operation.specs.declared.BinaryCode.TheVariants.{Complex}
+use Rattle.operation.specs.declared.BinaryCode.TheVariants.{Complex, Other as OtherBinary}
 use Rattle.operation.specs.declared.UnknownCode.{UnknownCode}
 use Rattle.operation.specs.Codes.{is_unary, is_binary}
 
@@ -33,15 +33,20 @@ unary_number Imaginary = 18
 unary_number Conjugate = 19
 unary_number IsZero = 20
 unary_number IsNotZero = 21
+unary_number (OtherUnary o) = o.number
 
--- and back: a number that no code has is read as the first
+-- and back: each number has one code, its own where it is none of these
 abbrev pub unary_codes : List UnaryCode
 unary_codes =
     Neg ∷ Not ∷ Abs ∷ Abs2 ∷ TimesI ∷ TimesNegI ∷ Root ∷ RealRoot ∷ Square ∷ Cube ∷ Recip
     ∷ Round ∷ Floor ∷ Ceiling ∷ Trunc ∷ Frac ∷ Real ∷ Imaginary ∷ Conjugate ∷ IsZero ∷ IsNotZero ∷ []
 
+abbrev pub numbered_unary : (n : ℕ) (b : Bool) → is_unary n ≡ b → UnaryCode
+numbered_unary n true e = get_or unary_codes (n - 1) Neg
+numbered_unary n false e = OtherUnary (record { number = n; unknown = e })
+
 unfoldable pub unary_code : ℕ → UnaryCode
-unary_code n = get_or unary_codes (n - 1) Neg
+unary_code n = numbered_unary n (is_unary n) refl
 
 -- the numbers of the binary codes, and back
 unfoldable pub binary_number : BinaryCode → ℕ
@@ -60,14 +65,19 @@ binary_number And = 12
 binary_number Or = 13
 binary_number Xor = 14
 binary_number Complex = 15
+binary_number (OtherBinary o) = o.number
 
 abbrev pub binary_codes : List BinaryCode
 binary_codes =
     Plus ∷ Minus ∷ Times ∷ Divide ∷ Rem ∷ Gt ∷ Geq ∷ Lt ∷ Leq ∷ Eq ∷ Neq
     ∷ And ∷ Or ∷ Xor ∷ Complex ∷ []
 
+abbrev pub numbered_binary : (n : ℕ) (b : Bool) → is_binary n ≡ b → BinaryCode
+numbered_binary n true e = get_or binary_codes (n - 1) Plus
+numbered_binary n false e = OtherBinary (record { number = n; unknown = e })
+
 unfoldable pub binary_code : ℕ → BinaryCode
-binary_code n = get_or binary_codes (n - 1) Plus
+binary_code n = numbered_binary n (is_binary n) refl
 
 -- what is read of a number: its code, or that no code has it
 abbrev pub ReadsUnary : ℕ → Result UnaryCode UnknownCode → Type 0

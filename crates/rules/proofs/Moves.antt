@@ -3,9 +3,10 @@ use mathlib.Core.Path.{◌≡◌, sym, ap, ◌∙◌}
 use mathlib.Core.Bool.{Bool, true, false}
 use mathlib.Core.List.{List}
 use Rattle.std.proofs.Common.{Option, Some, None}
-use Prim.Native.Nat.{ℕ, ◌+◌, ◌≤◌, min}
+use Prim.Native.Nat.{ℕ, ◌+◌, ◌<◌, ◌≤◌, min}
 use native.Mathlib.Omega.{arith}
 use lib.Dec.{eqb}
+use Rattle.operation.specs.Numbers.{binary_number}
 use Rattle.operation.specs.declared.UnaryCode.{UnaryCode}
 use Rattle.operation.specs.declared.UnaryCode.TheVariants.{Conjugate}
 use Rattle.operation.specs.declared.BinaryCode.{BinaryCode}
@@ -92,7 +93,7 @@ from_less : {rows : List ℕ} (lo : ℕ) {hi j : ℕ} → lo ≤ hi → From row
 from_less lo h f = record { from = omega (arith, f.from); row = f.row }
 
 within_less : (rows : List ℕ) (lo hi : ℕ) → lo ≤ hi → (m : Made) → Within rows hi m → Within rows lo m
-within_less rows lo hi h (M.Node c x y) w = (from_less lo h w.0, from_less lo h w.1)
+within_less rows lo hi h (M.Node c x y) w = (w.0, from_less lo h w.1, from_less lo h w.2)
 within_less rows lo hi h (M.Neg j) w = from_less lo h w
 within_less rows lo hi h (M.Alone j) w = from_less lo h w
 within_less rows lo hi h (M.Abs2 j) w = from_less lo h w
@@ -112,8 +113,8 @@ module _ (values : List ℕ) (c : BinaryCode) {t : LinkedRows} {l r : ℕ} (pair
   onward : (k : Option Move) → m ≡ k → Onward t.rows.now l r k
   onward k e = rw e at moved.onward
 
-  pub settled_stays : m ≡ None → Settled values t.rows.now c l r (M.Node c l r)
-  settled_stays e = record { tree = told None e; within = (from_left pair, from_right pair) }
+  pub settled_stays : m ≡ None → binary_number c < 256 → Settled values t.rows.now c l r (M.Node c l r)
+  settled_stays e f = record { tree = told None e; within = (f, from_left pair, from_right pair) }
 
   pub settled_ends : {z : Made} → m ≡ Some (Ends z) → Settled values t.rows.now c l r z
   settled_ends {z} e = record { tree = told (Some (Ends z)) e; within = onward (Some (Ends z)) e }

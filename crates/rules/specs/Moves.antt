@@ -1,5 +1,6 @@
 -- The rules over linked rows: what a move stands for, and where it leads.
 use Rattle.std.specs.Prelude.{◌≡◌, Bool, ◌&&◌, ◌||◌, ℕ, ◌+◌, ◌<◌, ◌≤◌, min, List, Option, Some, None}
+use Rattle.operation.specs.Numbers.{binary_number}
 use Rattle.operation.specs.declared.BinaryCode.{BinaryCode}
 use Rattle.operation.specs.declared.UnaryCode.TheVariants.{Neg, Abs2, Recip, Conjugate}
 use Rattle.operation.specs.declared.One.TheVariants.{Unary}
@@ -43,7 +44,7 @@ pub record From (rows : List ℕ) (lo j : ℕ) : Type 0 where
 
 -- its rows are linked and not before lo
 abbrev pub Within : (rows : List ℕ) (lo : ℕ) → Made → Type 0
-Within rows lo (M.Node c x y) = From rows lo x × From rows lo y
+Within rows lo (M.Node c x y) = (binary_number c < 256) × From rows lo x × From rows lo y
 Within rows lo (M.Neg j) = From rows lo j
 Within rows lo (M.Alone j) = From rows lo j
 Within rows lo (M.Abs2 j) = From rows lo j

@@ -175,7 +175,11 @@ impl Rules<'_> {
         ensures { Settles self.now code l r result }
     {
         match self.code_rules(code, l, r) {
-            None => Made::Node(code, l, r),
+            None => {
+                // For the proof: a code's number is a byte.
+                let _number = u8::from(code);
+                Made::Node(code, l, r)
+            }
             Some(Move::Ends(made)) => made,
             Some(Move::Again(c, x, y)) => self.settle(c, x, y),
         }

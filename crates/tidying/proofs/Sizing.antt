@@ -3,6 +3,7 @@ use mathlib.Core.Path.{◌≡◌, refl}
 use mathlib.Core.List.{List, [], ◌∷◌, map}
 use Prim.Native.Nat.{ℕ, ◌≤◌}
 use native.Mathlib.Omega.{arith}
+use Rattle.operation.specs.Numbers.{unary_number, binary_number}
 use Rattle.operation.specs.declared.Two.{Two}
 use Rattle.definitions.specs.Tree.{Tree, constant, variable, one, two}
 use Rattle.definitions.specs.Statement.{Statement, assign, call, source}
@@ -17,14 +18,14 @@ use Rattle.tidying.proofs.TidyKeeps.{tidy_weight, tidy_depth}
 
 module _ (u : Units) where
   alone_sized : (t : Tree) → SizedTree t → SizedTree (alone t)
-  unfolding SizedTree
+  unfolding SizedTree unary_number
   alone_sized (constant i) h = (omega arith, h)
   alone_sized (variable p) h = h
   alone_sized (one o a) h = h
   alone_sized (two o l r) h = h
 
   rule_sized : {o : Two} {l r : Tree} {s : Outcome} → Rule u o l r s → SizedTree (two o l r) → SizedTree (followed two o l r s)
-  unfolding SizedTree
+  unfolding SizedTree unary_number binary_number
   rule_sized (none o l r) h = h
   rule_sized (minus_left i r e) h = (omega arith, h.2)
   rule_sized (minus_right i l e) h = (omega arith, h.1)

@@ -1,6 +1,7 @@
 -- The comparison of two nodes meets its contract: one law for each way out.
-use Rattle.std.proofs.Common.{◌≡◌, true, false, arith, rules, refl}
+use Rattle.std.proofs.Common.{◌≡◌, ◌∙◌, true, false, arith, rules, refl, sym}
 use Rattle.limits.specs.Limits.{depth_limit}
+use Rattle.operation.proofs.Equal.{one_tells, two_tells}
 use Rattle.node.proofs.Nodes.{laid_room}
 use Rattle.compare.proofs.MarksDecide.{node_low, both_marks_decide}
 use Rattle.compare.proofs.HeadsDecide.{told, consts_decide, vars_decide, unary_trees, unary_side_decides, unaries_differ}
@@ -37,7 +38,8 @@ same_nodes-same_views-requires t c =
 pub same_nodes-returns-then-eq : goal.same_nodes-returns-then-eq
 same_nodes-returns-then-eq t c =
     let nodes = told c.requires c.unpack.ensures c.unpack-2.ensures c.in-Unary-Unary.is-0 c.in-Unary-Unary.is-1 in
-    unary_side_decides nodes _ (search rules) c.same_views.ensures
+    let one = one_tells _ _ (sym c.eq-in-Unary-Unary.ensures ∙ c.if-eq.true) in
+    unary_side_decides nodes _ one c.same_views.ensures
 
 pub same_nodes-returns-else-eq : goal.same_nodes-returns-else-eq
 same_nodes-returns-else-eq t c =
@@ -52,7 +54,8 @@ same_nodes-same_sides-requires t c =
 pub same_nodes-returns-then-eq-2 : goal.same_nodes-returns-then-eq-2
 same_nodes-returns-then-eq-2 t c =
     let nodes = told c.requires c.unpack.ensures c.unpack-2.ensures c.in-Binary-Binary.is-0 c.in-Binary-Binary.is-1 in
-    binary_sides_decide nodes _ (search rules) c.same_sides.ensures
+    let two = two_tells _ _ (sym c.eq-in-Binary-Binary.ensures ∙ c.if-eq-2.true) in
+    binary_sides_decide nodes _ two c.same_sides.ensures
 
 pub same_nodes-returns-else-eq-2 : goal.same_nodes-returns-else-eq-2
 same_nodes-returns-else-eq-2 t c =
