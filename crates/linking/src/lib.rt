@@ -107,7 +107,7 @@ pub fn link(nodes: &NodeTable, rows: &mut [u32], mixes: &mut [u64], values: &[u8
         let (row, ruled) = node_row(links, values, nodes.get(i), i + 1);
         let mix = mix_row(&links, row);
         changed |= ruled;
-        node::pack(rows, i, row.node, row.left);
+        node::put(rows, i, row.node, row.left);
         mixes[i as usize] = mix;
     }
     changed

@@ -86,6 +86,6 @@ pub fn lay(rows: &[u32], i: u32, ws: &mut [u32], m: u32) -> u32
             (Node::Binary(o, mid), lay(rows, right, ws, mid))
         }
     };
-    node::pack(ws, m, x, end);
+    node::put(ws, m, x, end);
     end
 }

@@ -25,7 +25,7 @@ pub returns : goal.returns
 returns t c =
     elim c.match-node.branch [
       | in-Const w ↦
-          let put = rw (w.ws-is, w.x-is) at c.pack.ensures in
+          let put = rw (w.ws-is, w.x-is) at c.put.ensures in
           elim w.in-Const.is [
             | inl k ↦
                 let row = row_read c.requires.row c.unpack-node.ensures c.end_of-left.ensures k.1 in
@@ -36,10 +36,10 @@ returns t c =
           ]
       | in-Unary w ↦
           let row = row_read c.requires.row c.unpack-node.ensures c.end_of-left.ensures w.in-Unary.is in
-          let put = rw (w.ws-is, w.x-is, w.in-Unary.is) at c.pack.ensures in
+          let put = rw (w.ws-is, w.x-is, w.in-Unary.is) at c.put.ensures in
           rw w.x-is (unary_laid c.requires row w.lay.ensures put)
       | in-Binary w ↦
           let row = row_read c.requires.row c.unpack-node.ensures c.end_of-left.ensures w.in-Binary.is in
-          let put = rw (w.ws-is, w.x-is) at c.pack.ensures in
+          let put = rw (w.ws-is, w.x-is) at c.put.ensures in
           rw w.x-is (binary_laid c.requires row w.lay-mid.ensures w.lay-in-Binary.ensures put)
     ]
