@@ -1,5 +1,5 @@
 -- The operations of a power as they are emitted: by its sign, digit by digit, squaring by squaring. Assumes nothing.
-use Rattle.std.specs.Prelude.{None, Option}
+use Rattle.std.specs.Prelude.{None, Option, Some}
 use Prim.Native.Nat.{ℕ, zero, suc, ◌+◌, ◌-◌, ◌/◌, ◌%◌, ◌<◌, ◌≤◌}
 use mathlib.Core.Path.{◌≡◌, refl, sym, ap, ◌∙◌}
 use mathlib.Core.Bool.{Bool, true, false}
@@ -22,6 +22,11 @@ use Rattle.emitters.specs.Emitted.{Emitted, AllEmitted}
 use Rattle.emitters.specs.declared.Output.{Output}
 use Rattle.emitters.proofs.Emitting.{all_emitted, all_then}
 use Rattle.emitters.proofs.Sign.{handed, zero_word, above, below}
+
+-- a product has an operation at least
+pub product_some : (m : Option ℕ) (d s1 s2 : ℕ) → 0 < length (product_ops m d s1 s2)
+product_some None d s1 s2 = omega arith
+product_some (Some r) d s1 s2 = omega arith
 
 module _ (times : (d s1 s2 : ℕ) → List Op) where
   -- the operations of a number's digits: those of its lowest, and those of its half's
